@@ -1,0 +1,4 @@
+pub mod Words
+pub mod Codec
+pub mod Layout
+pub mod Reading
