@@ -2,3 +2,8 @@ pub mod Numbers
 pub mod Entries
 pub mod Opened
 pub mod Steps
+pub mod Buffers
+pub mod Events
+pub mod Bodies
+pub mod Contents
+pub mod Writing

@@ -3,7 +3,7 @@ use mathlib.Core.Path.{_≡_, refl, sym, ap, _∙_}
 use mathlib.Core.List.{List, [], _∷_, _++_}
 use Prim.Native.Nat.{ℕ, zero, suc, _+_, _*_, _/_, _%_, _^_, _≤_, _<_}
 use native.Mathlib.Omega.{arith}
-use native.Mathlib.Nat.{mul-add}
+use native.Mathlib.Nat.{div-div-eq-div-mul}
 use lib.ListN.{length, getD, take, drop}
 use Rattle.std.proofs.shelf.Lists.{drop-more}
 use Rattle.trace.specs.Words.{number, bytes-of, word, Bytes}
@@ -24,3 +24,50 @@ word-pair k bytes i j n h e f =
     let low = word-more (suc k) bytes i j (omega arith) e in
     let high = word-more k bytes j n (omega arith) (omega arith) in
     omega arith
+
+pub length-bytes-of : (k n : ℕ) → length (bytes-of k n) ≡ k
+unfolding bytes-of
+length-bytes-of zero n = refl
+length-bytes-of (suc k) n = ap suc (length-bytes-of k (n / 256))
+
+bytes-from : (k n q : ℕ) → bytes-of (suc k) (n / q) ≡ n / q % 256 ∷ bytes-of k (n / (q * 256))
+unfolding bytes-of
+bytes-from k n q = ap (λ m. n / q % 256 ∷ bytes-of k m) (div-div-eq-div-mul n q 256)
+
+bytes-none : (n : ℕ) → bytes-of 0 n ≡ []
+unfolding bytes-of
+bytes-none n = refl
+
+bytes-first : (k n : ℕ) → bytes-of (suc k) n ≡ n % 256 ∷ bytes-of k (n / 256)
+unfolding bytes-of
+bytes-first k n = refl
+
+-- the bytes as `to_le_bytes` tells them
+pub bytes-2 : (n : ℕ) → bytes-of 2 n ≡ n % 256 ∷ (n / 256 % 256 ∷ [])
+bytes-2 n =
+    let a = bytes-first 1 n in
+    let b = bytes-from 0 n 256 in
+    let z = bytes-none (n / 65536) in
+    cc
+
+pub bytes-4 : (n : ℕ) → bytes-of 4 n ≡ n % 256 ∷ (n / 256 % 256 ∷ (n / 65536 % 256 ∷ (n / 16777216 % 256 ∷ [])))
+bytes-4 n =
+    let a = bytes-first 3 n in
+    let b = bytes-from 2 n 256 in
+    let c = bytes-from 1 n 65536 in
+    let d = bytes-from 0 n 16777216 in
+    let z = bytes-none (n / 4294967296) in
+    cc
+
+pub bytes-8 : (n : ℕ) → bytes-of 8 n ≡ n % 256 ∷ (n / 256 % 256 ∷ (n / 65536 % 256 ∷ (n / 16777216 % 256 ∷ (n / 4294967296 % 256 ∷ (n / 1099511627776 % 256 ∷ (n / 281474976710656 % 256 ∷ (n / 72057594037927936 % 256 ∷ [])))))))
+bytes-8 n =
+    let a = bytes-first 7 n in
+    let b = bytes-from 6 n 256 in
+    let c = bytes-from 5 n 65536 in
+    let d = bytes-from 4 n 16777216 in
+    let e = bytes-from 3 n 4294967296 in
+    let f = bytes-from 2 n 1099511627776 in
+    let g = bytes-from 1 n 281474976710656 in
+    let h = bytes-from 0 n 72057594037927936 in
+    let z = bytes-none (n / 18446744073709551616) in
+    cc

@@ -2,3 +2,4 @@ pub mod Words
 pub mod Codec
 pub mod Layout
 pub mod Reading
+pub mod File

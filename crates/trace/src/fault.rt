@@ -24,3 +24,11 @@ pub struct Refusal {
     pub fault: TraceFault,
     pub at: Site,
 }
+
+// Why a trace is not written.
+#[derive(Clone, Copy, PartialEq, Eq, Debug)]
+pub enum WriteFault {
+    Counts,
+    Oversize,
+    NoRoom,
+}
