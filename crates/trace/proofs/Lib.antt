@@ -7,3 +7,5 @@ pub mod Events
 pub mod Bodies
 pub mod Contents
 pub mod Writing
+pub mod Sections
+pub mod Rewrite

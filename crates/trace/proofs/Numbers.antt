@@ -3,9 +3,11 @@ use mathlib.Core.Path.{_≡_, refl, sym, ap, _∙_}
 use mathlib.Core.List.{List, [], _∷_, _++_}
 use Prim.Native.Nat.{ℕ, zero, suc, _+_, _*_, _/_, _%_, _^_, _≤_, _<_}
 use native.Mathlib.Omega.{arith}
-use native.Mathlib.Nat.{div-div-eq-div-mul}
+use native.Mathlib.Nat.{div-div-eq-div-mul, pow-suc}
 use lib.ListN.{length, getD, take, drop}
-use Rattle.std.proofs.shelf.Lists.{drop-more}
+use Rattle.std.proofs.shelf.Bits.{div-below}
+use Rattle.std.proofs.shelf.Elements.{all-take, all-drop}
+use Rattle.std.proofs.shelf.Lists.{length-drop, length-take-le, drop-more}
 use Rattle.trace.specs.Words.{number, bytes-of, word, Bytes}
 
 pub word-none : (bytes : List ℕ) (i : ℕ) → word 0 bytes i ≡ 0
@@ -71,3 +73,27 @@ bytes-8 n =
     let h = bytes-from 0 n 72057594037927936 in
     let z = bytes-none (n / 18446744073709551616) in
     cc
+
+-- the bytes of the number that bytes stand for are those bytes
+pub bytes-of-number : (bs : List ℕ) → Bytes bs → bytes-of (length bs) (number bs) ≡ bs
+unfolding number bytes-of
+bytes-of-number [] all = refl
+bytes-of-number (b ∷ bs) all =
+    let low : (b + 256 * number bs) % 256 ≡ b = omega (arith, all .0) in
+    let high : (b + 256 * number bs) / 256 ≡ number bs = omega (arith, all .0) in
+    ap (λ x. x ∷ bytes-of (length bs) ((b + 256 * number bs) / 256)) low ∙ ap (λ m. b ∷ bytes-of (length bs) m) high ∙ ap (λ l. b ∷ l) (bytes-of-number bs (all .1))
+
+pub bytes-again : (bytes : List ℕ) (k i : ℕ) → Bytes bytes → i + k ≤ length bytes → bytes-of k (word k bytes i) ≡ take k (drop i bytes)
+bytes-again bytes k i all h =
+    let long = length-take-le k (drop i bytes) (simp length-drop (omega arith)) in
+    ap (λ n. bytes-of n (word k bytes i)) (sym long) ∙ bytes-of-number (take k (drop i bytes)) (all-take (λ b. b < 256) k (drop i bytes) (all-drop (λ b. b < 256) i bytes all))
+
+-- the number of a number's bytes is that number
+pub number-bytes-of : (k n : ℕ) → n < 256 ^ k → number (bytes-of k n) ≡ n
+unfolding number bytes-of
+number-bytes-of zero n h = omega arith
+number-bytes-of (suc k) n h =
+    let e : 256 ^ suc k ≡ 256 ^ k * 256 = pow-suc 256 k in
+    let high : n / 256 < 256 ^ k = div-below n 256 (256 ^ k) (omega arith) (omega arith) in
+    let rest = number-bytes-of k (n / 256) high in
+    omega arith

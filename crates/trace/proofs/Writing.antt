@@ -32,7 +32,7 @@ pub record Entries (d counts : List ℕ) (events : List Event) (i at offset done
   pub out-is : out ≡ laid d 4 (take (8 * i) (all counts events))
   pub left : drop (8 * i) (all counts events) ≡ contents offset (drop i counts) (drop done events)
 
-take-add : {X : Type 0} (n m : ℕ) (xs : List X) → take (n + m) xs ≡ take n xs ++ take m (drop n xs)
+pub take-add : {X : Type 0} (n m : ℕ) (xs : List X) → take (n + m) xs ≡ take n xs ++ take m (drop n xs)
 take-add n m xs =
     sym (take-append-drop n (take (n + m) xs)) ∙ ap (λ l. l ++ drop n (take (n + m) xs)) (take-take n (n + m) xs (omega arith)) ∙ ap (λ l. take n xs ++ l) (drop-take n m xs)
 

@@ -3,3 +3,4 @@ pub mod Codec
 pub mod Layout
 pub mod Reading
 pub mod File
+pub mod Whole

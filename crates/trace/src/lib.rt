@@ -6,6 +6,7 @@ mod layout;
 mod place;
 mod reader;
 mod reading;
+mod whole;
 mod words;
 mod writer;
 
