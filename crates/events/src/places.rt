@@ -11,6 +11,13 @@ pub struct PlaceSet {
 impl PlaceSet {
     pub const EMPTY: PlaceSet = PlaceSet { word: 0 };
 
+    // The word that stands for the set.
+    pub fn word(self) -> u64
+        ensures { λ r. ⌜ r ≡ self .word ⌝ }
+    {
+        self.word
+    }
+
     // Whether the place is in the set; no place of 64 or more is.
     pub fn contains(self, place: u8) -> bool
         ensures { λ r. ⌜ r ≡ member (self .word) place ⌝ }

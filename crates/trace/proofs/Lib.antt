@@ -9,3 +9,4 @@ pub mod Contents
 pub mod Writing
 pub mod Sections
 pub mod Rewrite
+pub mod ReadBack

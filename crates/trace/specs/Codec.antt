@@ -4,10 +4,11 @@
 --   event-bytes e       the event as it stands in a file
 --   size k              how many bytes an event of kind k takes
 --   decoded bytes b     the event whose first byte is at b
+--   Words a                the sets of a commit are 64-bit words
 --   event-at bytes b end   the same, or its fault, in a body that ends at `end`
 use mathlib.Core.Bool.{Bool, cond}
 use mathlib.Core.List.{List, [], _∷_, _++_}
-use Prim.Native.Nat.{ℕ, _+_, _-_}
+use Prim.Native.Nat.{ℕ, _+_, _-_, _^_, _<_}
 use lib.Dec.{eqb, ltb, leb}
 use lib.ListN.{getD}
 use Rattle.std.specs.declared.result.Result.{Result}
@@ -69,3 +70,16 @@ decoded bytes b = record { thread = getD bytes (b + 1) 0; action = action-at byt
 abbrev pub event-at : List ℕ → ℕ → ℕ → Result Event TraceFault
 event-at bytes b end =
     cond (leb 10 (getD bytes b 0)) (Err Kind) (cond (ltb (end - b) (size (getD bytes b 0))) (Err Overrun) (Ok (decoded bytes b)))
+
+-- the sets of a commit are 64-bit words, as those of every event that a program holds
+abbrev pub Words : Action → Type 0
+Words (Read p) = Unit {0}
+Words (Write p) = Unit {0}
+Words (Acquire l) = Unit {0}
+Words (Release l) = Unit {0}
+Words (ReadFlag f) = Unit {0}
+Words (WriteFlag f) = Unit {0}
+Words (Fork t) = Unit {0}
+Words (Join t) = Unit {0}
+Words (Allocate o) = Unit {0}
+Words (Commit r w) = (r .word < 2 ^ 64) × (w .word < 2 ^ 64)

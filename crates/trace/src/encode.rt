@@ -1,10 +1,11 @@
 // Events, header and contents put into a buffer.
 ghost use mathlib.Core.Path.{_≡_};
 ghost use mathlib.Core.List.{_++_, _∷_, []};
-ghost use Prim.Native.Nat.{_+_, _*_, _≤_};
+ghost use Prim.Native.Nat.{_+_, _*_, _^_, _≤_, _<_};
 ghost use lib.ListN.{length};
+ghost use Rattle.std.specs.shelf.Lists.{All};
 ghost use Rattle.trace.specs.Words.{bytes-of};
-ghost use Rattle.trace.specs.Codec.{event-bytes};
+ghost use Rattle.trace.specs.Codec.{event-bytes, Words};
 ghost use Rattle.trace.specs.File.{body, laid};
 use events::Action;
 use events::Event;
@@ -45,17 +46,19 @@ fn put_single(out: &mut [u8], at: usize, kind: u8, thread: u8, operand: u8) -> u
 fn put_commit(out: &mut [u8], at: usize, thread: u8, reads: PlaceSet, writes: PlaceSet) -> usize
     requires { ⌜ at + 18 ≤ length (now out) ⌝ }
     ensures end { λ r. ⌜ r ≡ at + 18 ⌝ }
+    ensures words { λ r. ⌜ (reads .word < 2 ^ 64) × (writes .word < 2 ^ 64) ⌝ }
     ensures after { λ r. ⌜ now (out .exit) ≡ laid (now (out .entry)) at (9 ∷ (thread ∷ (bytes-of 8 (reads .word) ++ bytes-of 8 (writes .word)))) ⌝ }
 {
     let operands = put(out, at, &[9, thread]);
-    let second = put(out, operands, &reads.word.to_le_bytes());
-    put(out, second, &writes.word.to_le_bytes())
+    let second = put(out, operands, &reads.word().to_le_bytes());
+    put(out, second, &writes.word().to_le_bytes())
 }
 
 // The event from `at` on.
 pub fn put_event(out: &mut [u8], at: usize, event: Event) -> usize
     requires { ⌜ at + length (event-bytes event) ≤ length (now out) ⌝ }
     ensures end { λ r. ⌜ r ≡ at + length (event-bytes event) ⌝ }
+    ensures words { λ r. ⌜ Words (event .action) ⌝ }
     ensures after { λ r. ⌜ now (out .exit) ≡ laid (now (out .entry)) at (event-bytes event) ⌝ }
 {
     let thread = event.thread;
@@ -76,7 +79,8 @@ pub fn put_event(out: &mut [u8], at: usize, event: Event) -> usize
 // The events, one after another from `at` on.
 pub fn put_events(out: &mut [u8], at: usize, events: &[Event])
     requires { ⌜ at + length (body (now events)) ≤ length (now out) ⌝ }
-    ensures { λ _. ⌜ now (out .exit) ≡ laid (now (out .entry)) at (body (now (events .entry))) ⌝ }
+    ensures words { λ _. ⌜ All (λ e. Words (e .action)) (now (events .entry)) ⌝ }
+    ensures after { λ _. ⌜ now (out .exit) ≡ laid (now (out .entry)) at (body (now (events .entry))) ⌝ }
 {
     let mut end = at;
     for event in events {

@@ -1,6 +1,6 @@
 // Writing a trace: the checks, and then the file into the caller's buffer.
 ghost use mathlib.Core.Path.{_≡_};
-ghost use mathlib.Core.Bool.{cond};
+ghost use mathlib.Core.Bool.{true, cond};
 ghost use Prim.Native.Nat.{_+_, _*_, _≤_, _<_};
 ghost use lib.Dec.{eqb};
 ghost use lib.ListN.{length, drop};
@@ -9,6 +9,7 @@ ghost use Rattle.std.specs.Options.{Cases as BySome};
 ghost use Rattle.std.specs.Results.{isOk};
 ghost use Rattle.std.specs.shelf.Lists.{sum};
 ghost use Rattle.trace.specs.File.{body, contents, file, written, laid};
+ghost use Rattle.trace.specs.Whole.{Contains};
 use crate::encode::event_size;
 use crate::encode::put_entry;
 use crate::encode::put_events;
@@ -69,6 +70,7 @@ fn put_contents(out: &mut [u8], counts: &[usize], events: &[Event])
 pub fn write(events: &[Event], counts: &[usize], out: &mut [u8]) -> Result<usize, WriteFault>
     ensures answer { λ r. ⌜ r ≡ written (now (counts .entry)) (now (events .entry)) (length (now (out .entry))) ⌝ }
     ensures buffer { λ r. ⌜ now (out .exit) ≡ cond (isOk r) (file (now (counts .entry)) (now (events .entry)) ++ drop (length (file (now (counts .entry)) (now (events .entry)))) (now (out .entry))) (now (out .entry)) ⌝ }
+    ensures back { λ r. ⌜ (isOk r ≡ true → Contains (file (now (counts .entry)) (now (events .entry))) (now (counts .entry)) (now (events .entry))) ⌝ }
 {
     if counts.len() > 256 || !counts_sum_to(counts, events.len()) {
         return Err(WriteFault::Counts);

@@ -1,7 +1,7 @@
-use mathlib.Core.Path.{sym, ap, _∙_}
+use mathlib.Core.Path.{sym, ap, subst, _∙_}
 use native.Mathlib.Omega.{arith}
 use lib.ListN.{length}
-use Rattle.trace.specs.Codec.{operands, event-bytes}
+use Rattle.trace.specs.Codec.{operands, event-bytes, Words}
 use Rattle.trace.specs.File.{laid}
 use Rattle.trace.proofs.Events.{length-sets}
 use Rattle.trace.proofs.encode.put_event.Needs as need
@@ -17,5 +17,6 @@ returns-in-Commit c =
     let told = c .put-commit .ensures in
     record {
       end = omega arith;
+      words = subst Words (sym (c .in-Commit .is)) (told .words);
       after = told .after ∙ ap (λ a. laid (c .args .out .now) (c .args .at) (event-bytes (record { thread = c .args .event .thread; action = a }))) (sym (c .in-Commit .is));
     }
