@@ -15,7 +15,8 @@ impl PlaceSet {
     pub fn word(self) -> u64
         ensures { λ r. ⌜ r ≡ self .word ⌝ }
     {
-        self.word
+        let word = self.word;
+        word
     }
 
     // Whether the place is in the set; no place of 64 or more is.

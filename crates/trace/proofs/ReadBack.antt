@@ -203,12 +203,12 @@ reads-back counts events fits few total short =
     let end : body-end bs (count bs) ≡ length bs = ap (body-end bs) (many ∙ (let z : n ≡ 0 + n = omega arith in z)) ∙ t .last in
     let taken-all = ap (entries bs) none ∙ cond-false (ltb (body-end bs (count bs)) (length bs)) _ _ (le-ltb _ _ (omega arith)) in
     let e : opening bs ≡ None =
-        cond-false (ltb 65536 (length bs)) _ _ (le-ltb _ _ short)
-        ∙ cond-false (ltb (length bs) 4) _ _ (le-ltb _ _ (omega arith))
-        ∙ cond-false (not (eqb (word 2 bs 0) 1)) _ _ (not-from-true _ (eq-eqb _ _ edition))
-        ∙ cond-false (ltb 256 (count bs)) _ _ (le-ltb _ _ (omega arith))
-        ∙ cond-false (ltb (length bs) (4 + 8 * count bs)) _ _ (le-ltb _ _ (omega arith))
-        ∙ taken-all in
+    cond-false (ltb 65536 (length bs)) _ _ (le-ltb _ _ short)
+    ∙ cond-false (ltb (length bs) 4) _ _ (le-ltb _ _ (omega arith))
+    ∙ cond-false (not (eqb (word 2 bs 0) 1)) _ _ (not-from-true _ (eq-eqb _ _ edition))
+    ∙ cond-false (ltb 256 (count bs)) _ _ (le-ltb _ _ (omega arith))
+    ∙ cond-false (ltb (length bs) (4 + 8 * count bs)) _ _ (le-ltb _ _ (omega arith))
+    ∙ taken-all in
     let at : 4 + 8 * count bs ≡ 4 + 8 * n = omega arith in
     let bodies = ap (λ m. drop m bs) at ∙ parts .3 in
     record {

@@ -68,28 +68,28 @@ module _ (bs : List ℕ) (all : Bytes bs) where
       let some = size-some k in
       ⊎-elim
       (λ nine.
-          let yes = eq-eqb k 9 nine in
-          let long : size k ≡ 18 = cond-true (eqb k 9) 18 3 yes in
-          let act : action-at bs k (b + 2) ≡ Commit (set-at bs (b + 2)) (set-at bs (b + 2 + 8)) = cond-true (eqb k 9) _ _ yes in
-          let sets = bytes-again bs 8 (b + 2) all (omega arith) in
-          let sets′ = bytes-again bs 8 (b + 2 + 8) all (omega arith) in
-          let join = sym (take-add 8 8 (drop (b + 2) bs) ∙ ap (λ l. take 8 (drop (b + 2) bs) ++ take 8 l) (drop-drop 8 (b + 2) bs)) in
-          let back = first-byte bs b (b + 1) 17 (omega arith) refl ∙ ap (λ l. k ∷ l) (first-byte bs (b + 1) (b + 2) 16 (omega arith) (omega arith)) in
-          ap (λ a. kind a ∷ (t ∷ operands a)) act
-          ∙ ap (λ n. n ∷ (t ∷ (bytes-of 8 (word 8 bs (b + 2)) ++ bytes-of 8 (word 8 bs (b + 2 + 8))))) (sym nine)
-          ∙ ap (λ l. k ∷ (t ∷ (l ++ bytes-of 8 (word 8 bs (b + 2 + 8))))) sets
-          ∙ ap (λ l. k ∷ (t ∷ (take 8 (drop (b + 2) bs) ++ l))) sets′
-          ∙ ap (λ l. k ∷ (t ∷ l)) join ∙ sym back ∙ ap (λ n. take n (drop b bs)) (sym long))
+      let yes = eq-eqb k 9 nine in
+      let long : size k ≡ 18 = cond-true (eqb k 9) 18 3 yes in
+      let act : action-at bs k (b + 2) ≡ Commit (set-at bs (b + 2)) (set-at bs (b + 2 + 8)) = cond-true (eqb k 9) _ _ yes in
+      let sets = bytes-again bs 8 (b + 2) all (omega arith) in
+      let sets′ = bytes-again bs 8 (b + 2 + 8) all (omega arith) in
+      let join = sym (take-add 8 8 (drop (b + 2) bs) ∙ ap (λ l. take 8 (drop (b + 2) bs) ++ take 8 l) (drop-drop 8 (b + 2) bs)) in
+      let back = first-byte bs b (b + 1) 17 (omega arith) refl ∙ ap (λ l. k ∷ l) (first-byte bs (b + 1) (b + 2) 16 (omega arith) (omega arith)) in
+      ap (λ a. kind a ∷ (t ∷ operands a)) act
+      ∙ ap (λ n. n ∷ (t ∷ (bytes-of 8 (word 8 bs (b + 2)) ++ bytes-of 8 (word 8 bs (b + 2 + 8))))) (sym nine)
+      ∙ ap (λ l. k ∷ (t ∷ (l ++ bytes-of 8 (word 8 bs (b + 2 + 8))))) sets
+      ∙ ap (λ l. k ∷ (t ∷ (take 8 (drop (b + 2) bs) ++ l))) sets′
+      ∙ ap (λ l. k ∷ (t ∷ l)) join ∙ sym back ∙ ap (λ n. take n (drop b bs)) (sym long))
       (λ other.
-          let no = ne-eqb k 9 other in
-          let x = getD bs (b + 2) 0 in
-          let long : size k ≡ 3 = cond-false (eqb k 9) 18 3 no in
-          let act : action-at bs k (b + 2) ≡ simple k x = cond-false (eqb k 9) _ _ no in
-          let one = single-bytes k x (omega arith) in
-          let back = first-byte bs b (b + 1) 2 (omega arith) refl ∙ ap (λ l. k ∷ l) (first-byte bs (b + 1) (b + 2) 1 (omega arith) (omega arith) ∙ ap (λ l. t ∷ l) (first-byte bs (b + 2) (b + 3) 0 (omega arith) (omega arith))) in
-          ap (λ a. kind a ∷ (t ∷ operands a)) act
-          ∙ ap (λ n. n ∷ (t ∷ operands (simple k x))) (one .0)
-          ∙ ap (λ l. k ∷ (t ∷ l)) (one .1) ∙ sym back ∙ ap (λ n. take n (drop b bs)) (sym long))
+      let no = ne-eqb k 9 other in
+      let x = getD bs (b + 2) 0 in
+      let long : size k ≡ 3 = cond-false (eqb k 9) 18 3 no in
+      let act : action-at bs k (b + 2) ≡ simple k x = cond-false (eqb k 9) _ _ no in
+      let one = single-bytes k x (omega arith) in
+      let back = first-byte bs b (b + 1) 2 (omega arith) refl ∙ ap (λ l. k ∷ l) (first-byte bs (b + 1) (b + 2) 1 (omega arith) (omega arith) ∙ ap (λ l. t ∷ l) (first-byte bs (b + 2) (b + 3) 0 (omega arith) (omega arith))) in
+      ap (λ a. kind a ∷ (t ∷ operands a)) act
+      ∙ ap (λ n. n ∷ (t ∷ operands (simple k x))) (one .0)
+      ∙ ap (λ l. k ∷ (t ∷ l)) (one .1) ∙ sym back ∙ ap (λ n. take n (drop b bs)) (sym long))
       (cases-eq k 9)
 
   length-event-again : (b : ℕ) → getD bs b 0 < 10 → b + size (getD bs b 0) ≤ length bs → length (event-bytes (decoded bs b)) ≡ size (getD bs b 0)

@@ -37,8 +37,7 @@ either false x = refl
 -- the file does not open
 pub next-refused : (bytes : List ℕ) (p : Place) (f : Refusal) → sections-or bytes (opening bytes) ≡ Err f → (next bytes p ≡ Err f) × (after bytes p ≡ p) × (inside bytes p ≡ p)
 next-refused bytes p f e =
-    let o = refused-by bytes (opening bytes) f e in
-    (
+    let o = refused-by bytes (opening bytes) f e in (
       ap (λ r. unless-refused r Err (onward bytes (inside bytes p))) o,
       ap (λ r. unless-refused r (λ _. p) (behind bytes (inside bytes p))) o,
       ap (λ r. cond (eqb (p .byte) 0) (entered bytes r p) p) o ∙ either (eqb (p .byte) 0) p,
@@ -50,8 +49,7 @@ next-faulty bytes held p q n f same in′ e h t =
     let o = opened-by bytes (opening bytes) n e in
     let long = ap length same in
     let yes = lt-ltb (q .byte) (length bytes) (omega arith) in
-    let read = sym (ap (λ b. taken b q) same) ∙ t in
-    (
+    let read = sym (ap (λ b. taken b q) same) ∙ t in (
       ap (λ r. unless-refused r Err (onward bytes (inside bytes p))) o ∙ ap (onward bytes) (sym in′) ∙ ap (λ b. cond b (found (taken bytes q)) (Ok None)) yes ∙ ap found read,
       ap (λ r. unless-refused r (λ _. p) (behind bytes (inside bytes p))) o ∙ ap (behind bytes) (sym in′) ∙ ap (λ b. cond b (kept (taken bytes q) q (moved bytes q)) q) yes ∙ ap (λ r. kept r q (moved bytes q)) read,
     )

@@ -84,9 +84,9 @@ module _ {d counts : List ℕ} {events : List Event} {i at offset done : ℕ} {o
         done-is = let sum-more = sumBy-more (λ x. x) counts i 0 next in omega (arith, sofar .done-is);
         offset-is = omega (arith, sofar .offset-is);
         out-is =
-          put ∙ ap (λ l. laid l at (entry-bytes offset size)) (sofar .out-is) ∙ ap (λ m. laid (laid d 4 (take (8 * i) C)) at (entry-bytes offset m)) e
-          ∙ laid-more d 4 at (take (8 * i) C) (entry-bytes offset n) (omega (arith, sofar .at-is)) room
-          ∙ ap (laid d 4) (sym taken);
+            put ∙ ap (λ l. laid l at (entry-bytes offset size)) (sofar .out-is) ∙ ap (λ m. laid (laid d 4 (take (8 * i) C)) at (entry-bytes offset m)) e
+            ∙ laid-more d 4 at (take (8 * i) C) (entry-bytes offset n) (omega (arith, sofar .at-is)) room
+            ∙ ap (laid d 4) (sym taken);
         left = left ∙ size-is;
       }
 

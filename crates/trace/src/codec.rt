@@ -14,6 +14,7 @@ use events::PlaceSet;
 
 // The kind with two sets for operands, and the number of kinds.
 const COMMIT: u8 = 9;
+
 const KINDS: u8 = 10;
 
 // The action of a kind with one operand.
@@ -46,8 +47,12 @@ fn read_action(bytes: &[u8], kind: u8, at: usize) -> Action
     ensures { λ r. ⌜ r ≡ action-at (now (bytes .entry)) kind at ⌝ }
 {
     if kind == COMMIT {
-        let reads = PlaceSet { word: word64(bytes, at) };
-        let writes = PlaceSet { word: word64(bytes, at + 8) };
+        let reads = PlaceSet {
+            word: word64(bytes, at),
+        };
+        let writes = PlaceSet {
+            word: word64(bytes, at + 8),
+        };
         Action::Commit { reads, writes }
     } else {
         single(kind, bytes[at])
@@ -56,7 +61,7 @@ fn read_action(bytes: &[u8], kind: u8, at: usize) -> Action
 
 // Takes the event at the place, in a body that ends at `end`, and moves the place past it.
 // Where the event is refused, the place is left inside it.
-pub fn read_event(bytes: &[u8], at: &mut Place, end: usize) -> Result<Event, TraceFault>
+pub(crate) fn read_event(bytes: &[u8], at: &mut Place, end: usize) -> Result<Event, TraceFault>
     requires { ⌜ now at .byte < end ⌝ ∗ ⌜ end ≤ length (now bytes) ⌝ ∗ ⌜ now at .events ≤ now at .byte ⌝ }
     ensures answer { λ r. ⌜ r ≡ event-at (now (bytes .entry)) (now (at .entry) .byte) end ⌝ }
     ensures byte { λ r. ⌜ (isOk r ≡ true → now (at .exit) .byte ≡ now (at .entry) .byte + size (getD (now (bytes .entry)) (now (at .entry) .byte) 0)) ⌝ }

@@ -12,7 +12,7 @@ use events::Event;
 use events::PlaceSet;
 
 // How many bytes the event takes.
-pub fn event_size(event: &Event) -> usize
+pub(crate) fn event_size(event: &Event) -> usize
     ensures value { λ r. ⌜ r ≡ length (event-bytes (now (event .entry))) ⌝ }
     ensures bound { λ r. ⌜ r ≤ 18 ⌝ }
 {
@@ -23,7 +23,7 @@ pub fn event_size(event: &Event) -> usize
 }
 
 // Copies the bytes into the buffer from `at` on, and tells where they end.
-pub fn put(out: &mut [u8], at: usize, bytes: &[u8]) -> usize
+pub(crate) fn put(out: &mut [u8], at: usize, bytes: &[u8]) -> usize
     requires { ⌜ at + length (now bytes) ≤ length (now out) ⌝ }
     ensures end { λ r. ⌜ r ≡ at + length (now (bytes .entry)) ⌝ }
     ensures after { λ r. ⌜ now (out .exit) ≡ laid (now (out .entry)) at (now (bytes .entry)) ⌝ }
@@ -55,7 +55,7 @@ fn put_commit(out: &mut [u8], at: usize, thread: u8, reads: PlaceSet, writes: Pl
 }
 
 // The event from `at` on.
-pub fn put_event(out: &mut [u8], at: usize, event: Event) -> usize
+pub(crate) fn put_event(out: &mut [u8], at: usize, event: Event) -> usize
     requires { ⌜ at + length (event-bytes event) ≤ length (now out) ⌝ }
     ensures end { λ r. ⌜ r ≡ at + length (event-bytes event) ⌝ }
     ensures words { λ r. ⌜ Words (event .action) ⌝ }
@@ -77,7 +77,7 @@ pub fn put_event(out: &mut [u8], at: usize, event: Event) -> usize
 }
 
 // The events, one after another from `at` on.
-pub fn put_events(out: &mut [u8], at: usize, events: &[Event])
+pub(crate) fn put_events(out: &mut [u8], at: usize, events: &[Event])
     requires { ⌜ at + length (body (now events)) ≤ length (now out) ⌝ }
     ensures words { λ _. ⌜ All (λ e. Words (e .action)) (now (events .entry)) ⌝ }
     ensures after { λ _. ⌜ now (out .exit) ≡ laid (now (out .entry)) at (body (now (events .entry))) ⌝ }
@@ -89,7 +89,7 @@ pub fn put_events(out: &mut [u8], at: usize, events: &[Event])
 }
 
 // An entry of the contents.
-pub fn put_entry(out: &mut [u8], at: usize, offset: u32, size: u32) -> usize
+pub(crate) fn put_entry(out: &mut [u8], at: usize, offset: u32, size: u32) -> usize
     requires { ⌜ at + 8 ≤ length (now out) ⌝ }
     ensures end { λ r. ⌜ r ≡ at + 8 ⌝ }
     ensures after { λ r. ⌜ now (out .exit) ≡ laid (now (out .entry)) at (bytes-of 4 offset ++ bytes-of 4 size) ⌝ }
@@ -99,7 +99,7 @@ pub fn put_entry(out: &mut [u8], at: usize, offset: u32, size: u32) -> usize
 }
 
 // Edition and number of sections.
-pub fn put_header(out: &mut [u8], sections: u16)
+pub(crate) fn put_header(out: &mut [u8], sections: u16)
     requires { ⌜ 4 ≤ length (now out) ⌝ }
     ensures { λ _. ⌜ now (out .exit) ≡ laid (now (out .entry)) 0 (bytes-of 2 1 ++ bytes-of 2 sections) ⌝ }
 {

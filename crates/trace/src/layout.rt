@@ -14,18 +14,27 @@ use crate::words::word16;
 use crate::words::word32;
 
 const LONGEST: usize = 65_536;
+
 const EDITION: u16 = 1;
+
 const MOST_SECTIONS: u16 = 256;
 
 // A refusal before the first event.
 fn early(fault: TraceFault, byte: usize) -> Refusal
     ensures { λ r. ⌜ Some r ≡ at-start fault byte ⌝ }
 {
-    Refusal { fault, at: Site { section: 0, event: 0, byte } }
+    Refusal {
+        fault,
+        at: Site {
+            section: 0,
+            event: 0,
+            byte,
+        },
+    }
 }
 
 // Checks length, header and the room for the contents, and tells the number of sections.
-pub fn check_header(bytes: &[u8]) -> Result<usize, Refusal>
+pub(crate) fn check_header(bytes: &[u8]) -> Result<usize, Refusal>
     ensures { λ r. ⌜ Cases r (λ n. Header (now (bytes .entry)) n) (λ f. opening (now (bytes .entry)) ≡ Some f) ⌝ }
 {
     let len = bytes.len();
@@ -65,7 +74,7 @@ fn entry_end(bytes: &[u8], i: usize, end: usize) -> Option<usize>
 }
 
 // Checks each entry of the contents, and that the file ends with the last body.
-pub fn check_entries(bytes: &[u8], sections: usize) -> Result<(), Refusal>
+pub(crate) fn check_entries(bytes: &[u8], sections: usize) -> Result<(), Refusal>
     requires { ⌜ Header (now bytes) sections ⌝ }
     ensures { λ r. ⌜ Cases r (λ _. opening (now (bytes .entry)) ≡ None) (λ f. opening (now (bytes .entry)) ≡ Some f) ⌝ }
 {

@@ -24,6 +24,10 @@ impl Drop for Guard<'_> {
         if !self.keep {
             *self.at = self.saved;
         }
-        let Guard { at: _, saved: _, keep: _ } = self;
+        let Guard {
+            at: _,
+            saved: _,
+            keep: _,
+        } = self;
     }
 }

@@ -35,7 +35,11 @@ fn first_place(bytes: &[u8]) -> Result<Place, Refusal>
 {
     let sections = check_header(bytes)?;
     check_entries(bytes, sections)?;
-    Ok(Place { section: 0, events: 0, byte: 4 + 8 * sections })
+    Ok(Place {
+        section: 0,
+        events: 0,
+        byte: 4 + 8 * sections,
+    })
 }
 
 impl<'a> Reader<'a> {
@@ -43,7 +47,14 @@ impl<'a> Reader<'a> {
     pub fn new(bytes: &'a [u8]) -> Reader<'a>
         ensures { λ r. ⌜ (now (r .bytes) ≡ now (bytes .entry)) × (r .at ≡ outside) ⌝ }
     {
-        Reader { bytes, at: Place { section: 0, events: 0, byte: 0 } }
+        Reader {
+            bytes,
+            at: Place {
+                section: 0,
+                events: 0,
+                byte: 0,
+            },
+        }
     }
 
     // Where the reader stands.
@@ -100,8 +111,16 @@ impl<'a> Reader<'a> {
         let end = self.section_end(section);
         let bytes = self.bytes;
         let saved = self.at;
-        let site = Site { section, event: saved.events + 1, byte: saved.byte };
-        let mut guard = Guard { at: &mut self.at, saved, keep: false };
+        let site = Site {
+            section,
+            event: saved.events + 1,
+            byte: saved.byte,
+        };
+        let mut guard = Guard {
+            at: &mut self.at,
+            saved,
+            keep: false,
+        };
         guard.at.section = section;
         let event = at_site(read_event(bytes, guard.at, end), site)?;
         guard.keep = true;

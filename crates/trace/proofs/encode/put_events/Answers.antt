@@ -32,8 +32,7 @@ loop-event-again c =
     let es = c .args .events .now in
     let i = c .loop-event .event-index in
     let e = event-bytes (getD es i blank) in
-    let more = length-body-more es i (c .loop-event-test .taken) in
-    (
+    let more = length-body-more es i (c .loop-event-test .taken) in (
       omega (arith, c .put-event-end .ensures .end),
       c .put-event-end .ensures .after ∙ ap (λ l. laid l (c .loop-event .end) e) (c .loop-event .inv .1) ∙ laid-more d (c .args .at) (c .loop-event .end) (body (take i es)) e (c .loop-event .inv .0) (omega arith) ∙ ap (laid d (c .args .at)) (sym (body-more es i (c .loop-event-test .taken))),
       all-more (λ x. Words (x .action)) es i blank (c .loop-event-test .taken) (c .loop-event .inv .2) (c .put-event-end .ensures .words),

@@ -33,8 +33,7 @@ opens c =
 pub loop-i-holds : need.loop-i-holds
 loop-i-holds c =
     let first = opens (need.at·loop-i-holds c .In-Continue-sections) in
-    let byte = ap (λ p. p .byte) (first .2) in
-    (
+    let byte = ap (λ p. p .byte) (first .2) in (
       c .contents .ensures .bytes ∙ c .new-reader .ensures .0,
       omega arith,
       subst (λ es. Through (c .args .bytes .now) 0 (c .contents .last .self .at) (vec-items (c .new-counts .result)) es) (sym (c .new-events .ensures .items)) (subst (λ cs. Through (c .args .bytes .now) 0 (c .contents .last .self .at) cs _) (sym (c .new-counts .ensures .items)) (through-none (c .args .bytes .now) (c .contents .last .self .at) (first .2))),
