@@ -1,0 +1,17 @@
+pub mod Searches
+pub mod Acts
+pub mod Records
+pub mod Order
+pub mod Conflicts
+pub mod Faults
+pub mod Judgement
+pub mod Rearrangements
+pub mod Holders
+pub mod Slots
+pub mod Examples
+pub mod Verdicts
+pub mod SlotSearch
+pub mod Cells
+pub mod Questions
+pub mod Computing
+pub mod Work
