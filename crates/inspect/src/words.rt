@@ -45,14 +45,14 @@ fn deed(heap: Global, action: Action) -> Result<String, AllocError> {
 }
 
 // An event in words.
-pub fn sentence(heap: Global, event: Event) -> Result<String, AllocError> {
+pub(crate) fn sentence(heap: Global, event: Event) -> Result<String, AllocError> {
     let thread = event.thread;
     let what = deed(heap, event.action)?;
     format!(heap, "thread {thread} {what}")
 }
 
 // What a fault means.
-pub fn meaning(fault: TraceFault) -> &'static str {
+pub(crate) fn meaning(fault: TraceFault) -> &'static str {
     match fault {
         TraceFault::TooLong => "the file has more than 65536 bytes",
         TraceFault::Truncated => "the file ends inside its header or contents",

@@ -43,15 +43,15 @@ at-kind k x n h e = subst (λ m. Single m x) (sym e) h
 single-bytes : (k x : ℕ) → k < 9 → Single k x
 unfolding Single
 single-bytes k x h =
-    ⊎-elim (at-kind k x 0 (refl, refl)) (λ n0.
-    ⊎-elim (at-kind k x 1 (refl, refl)) (λ n1.
-    ⊎-elim (at-kind k x 2 (refl, refl)) (λ n2.
-    ⊎-elim (at-kind k x 3 (refl, refl)) (λ n3.
-    ⊎-elim (at-kind k x 4 (refl, refl)) (λ n4.
-    ⊎-elim (at-kind k x 5 (refl, refl)) (λ n5.
-    ⊎-elim (at-kind k x 6 (refl, refl)) (λ n6.
-    ⊎-elim (at-kind k x 7 (refl, refl)) (λ n7.
-    ⊎-elim (at-kind k x 8 (refl, refl)) (λ n8. absurd (omega arith))
+    ⊎-elim (at-kind k x 0 (refl, refl)) (λ not0.
+    ⊎-elim (at-kind k x 1 (refl, refl)) (λ not1.
+    ⊎-elim (at-kind k x 2 (refl, refl)) (λ not2.
+    ⊎-elim (at-kind k x 3 (refl, refl)) (λ not3.
+    ⊎-elim (at-kind k x 4 (refl, refl)) (λ not4.
+    ⊎-elim (at-kind k x 5 (refl, refl)) (λ not5.
+    ⊎-elim (at-kind k x 6 (refl, refl)) (λ not6.
+    ⊎-elim (at-kind k x 7 (refl, refl)) (λ not7.
+    ⊎-elim (at-kind k x 8 (refl, refl)) (λ not8. absurd (omega arith))
     (cases-eq k 8)) (cases-eq k 7)) (cases-eq k 6)) (cases-eq k 5)) (cases-eq k 4)) (cases-eq k 3)) (cases-eq k 2)) (cases-eq k 1)) (cases-eq k 0)
 
 -- the first of some bytes, and the others

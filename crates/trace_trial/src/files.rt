@@ -11,7 +11,7 @@ fn push32(out: &mut Vec<u8>, n: u32) -> Result<(), AllocError> {
 }
 
 // Header and contents as they are told, whether they fit or not, and then the bytes.
-pub fn told(
+pub(crate) fn told(
     heap: Global,
     sections: u16,
     entries: &[(u32, u32)],
@@ -29,12 +29,12 @@ pub fn told(
 }
 
 // A file of one section.
-pub fn single(heap: Global, body: &[u8]) -> Result<Vec<u8>, AllocError> {
+pub(crate) fn single(heap: Global, body: &[u8]) -> Result<Vec<u8>, AllocError> {
     told(heap, 1, &[(12, (body.len() & 0xffff) as u32)], body)
 }
 
 // So many empty sections and nothing else.
-pub fn empties(heap: Global, sections: u16) -> Result<Vec<u8>, AllocError> {
+pub(crate) fn empties(heap: Global, sections: u16) -> Result<Vec<u8>, AllocError> {
     let mut out = Vec::new(heap);
     push16(&mut out, 1)?;
     push16(&mut out, sections)?;
@@ -47,7 +47,7 @@ pub fn empties(heap: Global, sections: u16) -> Result<Vec<u8>, AllocError> {
 }
 
 // Reads of place 5 by thread 0, so many, with two empty sections before them.
-pub fn reads(heap: Global, events: u32) -> Result<Vec<u8>, AllocError> {
+pub(crate) fn reads(heap: Global, events: u32) -> Result<Vec<u8>, AllocError> {
     let mut body = Vec::new(heap);
     for _ in 0..events {
         body.extend_from_slice(&[0, 0, 5])?;

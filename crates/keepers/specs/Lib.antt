@@ -1,0 +1,4 @@
+pub mod Fault
+pub mod Meaning
+pub mod Tables
+pub mod Calls

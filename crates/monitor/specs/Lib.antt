@@ -1,0 +1,5 @@
+pub mod Answers
+pub mod Stands
+pub mod Slips
+pub mod Promise
+pub mod Theorems

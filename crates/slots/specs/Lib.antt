@@ -1,0 +1,5 @@
+pub mod Serials
+pub mod Partners
+pub mod Made
+pub mod Bounds
+pub mod Told
