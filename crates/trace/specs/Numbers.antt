@@ -2,6 +2,7 @@
 use Prim.Native.Nat.{ℕ}
 use Rattle.trace.specs.declared.fault.TraceFault.{TraceFault}
 use Rattle.trace.specs.declared.fault.TraceFault.the-variants.{TooLong, Truncated, Edition, Contents, Kind, Overrun}
+use Rattle.trace.specs.declared.fault.Refusal.{Refusal}
 use Rattle.trace.specs.declared.fault.WriteFault.{WriteFault}
 use Rattle.trace.specs.declared.fault.WriteFault.the-variants.{Counts, Oversize, NoRoom}
 
@@ -20,3 +21,7 @@ abbrev pub write-number : WriteFault → ℕ
 write-number Counts = 18
 write-number Oversize = 12
 write-number NoRoom = 19
+
+-- every refusal of the reader is of the first layer, the trace file
+abbrev pub layer : Refusal → ℕ
+layer f = 1

@@ -1,6 +1,6 @@
 // What is wrong with a trace file, and where.
 ghost use mathlib.Core.Path.{_≡_};
-ghost use Rattle.trace.specs.Numbers.{number, write-number};
+ghost use Rattle.trace.specs.Numbers.{number, write-number, layer};
 
 // A place in a file, as a refusal names it: sections and events count from 1, and both are 0 before the first event.
 #[derive(Clone, Copy, PartialEq, Eq, Debug)]
@@ -33,6 +33,15 @@ pub enum WriteFault {
     Counts,
     Oversize,
     NoRoom,
+}
+
+impl Refusal {
+    // The layer that refuses: 1 is the trace file.
+    pub fn layer(self) -> u8
+        ensures { λ r. ⌜ r ≡ layer self ⌝ }
+    {
+        1
+    }
 }
 
 impl TraceFault {
