@@ -10,3 +10,4 @@ pub mod Writing
 pub mod Sections
 pub mod Rewrite
 pub mod ReadBack
+pub mod HandedOn

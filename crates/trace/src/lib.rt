@@ -2,6 +2,7 @@
 mod codec;
 mod encode;
 mod fault;
+mod handing;
 mod layout;
 mod place;
 mod reader;
@@ -22,6 +23,7 @@ pub use fault::TraceFaultPartialEq;
 pub use fault::WriteFault;
 pub use fault::WriteFaultDebug;
 pub use fault::WriteFaultPartialEq;
+pub use handing::Taker;
 pub use place::Guard;
 pub use place::Place;
 pub use reader::Reader;

@@ -20,7 +20,7 @@ use crate::words::word32;
 use events::Event;
 
 // A fault is told with its site.
-fn at_site(read: Result<Event, TraceFault>, at: Site) -> Result<Event, Refusal>
+pub(crate) fn at_site(read: Result<Event, TraceFault>, at: Site) -> Result<Event, Refusal>
     ensures { λ r. ⌜ r ≡ placed at read ⌝ }
 {
     match read {
@@ -87,7 +87,7 @@ impl<'a> Reader<'a> {
     }
 
     // The section that holds the next byte.
-    fn section(&self) -> usize
+    pub(crate) fn section(&self) -> usize
         requires { ⌜ 0 < now self .at .byte ⌝ ∗ ⌜ now self .at .byte < length (now (now self .bytes)) ⌝ }
         ensures within { λ r. ⌜ (0 < r) × (r ≤ count (now (now (self .entry) .bytes))) ⌝ }
         ensures around { λ r. ⌜ (body-end (now (now (self .entry) .bytes)) (r - 1) ≤ now (self .entry) .at .byte) × (now (self .entry) .at .byte < body-end (now (now (self .entry) .bytes)) r) ⌝ }

@@ -1,0 +1,36 @@
+// From a trace file to a certificate: the run, its text, and the call for C hosts.
+mod certificate;
+mod fault;
+mod finding;
+mod host;
+mod listing;
+mod run;
+mod running;
+mod text;
+
+pub use certificate::certificate_of;
+pub use certificate::certificates_agree;
+pub use fault::Cause;
+pub use fault::CauseDebug;
+pub use fault::CauseFromRule;
+pub use fault::CauseFromRun;
+pub use fault::CausePartialEq;
+pub use fault::Fault;
+pub use fault::FaultDebug;
+pub use fault::FaultFromRefusal;
+pub use fault::FaultPartialEq;
+pub use fault::RunFault;
+pub use fault::RunFaultDebug;
+pub use fault::RunFaultPartialEq;
+pub use finding::Finding;
+pub use finding::FindingDebug;
+pub use finding::FindingPartialEq;
+pub use finding::Findings;
+pub use host::wickerheron_certify;
+pub use run::Ran;
+pub use run::Run;
+pub use running::RunTaker;
+pub use running::run_file;
+pub use text::FaultDisplay;
+pub use text::FindingDisplay;
+pub use text::text_of;
