@@ -1,8 +1,6 @@
 // What a run finds: a thousand declined events at most.
-ghost use mathlib.Core.Path.{_≡_};
 ghost use Prim.Native.Nat.{_≤_};
 ghost use Rattle.std.specs.Of.Vec.{vec-cap};
-use std::alloc::Global;
 
 // A declined event by its number in the file, the place of its race and the witness's serial.
 #[derive(Clone, Copy, PartialEq, Eq, Debug)]
