@@ -26,7 +26,7 @@ pub(crate) struct Race {
 impl<K: Keeper> Run<K> {
     // Offers an event, and tells the race for which it is declined, if it is.
     fn offer(&mut self, event: Event) -> Result<Option<Race>, RuleFault>
-        ensures answer { (rec : List AnEvent) → Stands K.Keeper.live K.Keeper.meaning rec self.old.monitor → RaceOf (judge rec event) result × Stands K.Keeper.live K.Keeper.meaning (recorded rec event (judge rec event)) self.new.monitor }
+        ensures answer { (rec : List AnEvent) → Stands K.live K.meaning rec self.old.monitor → RaceOf (judge rec event) result × Stands K.live K.meaning (recorded rec event (judge rec event)) self.new.monitor }
         ensures findings { self.new.findings ≡ self.old.findings }
     {
         match self.monitor.offer(event) {
@@ -38,7 +38,7 @@ impl<K: Keeper> Run<K> {
 
     // Offers the file's event of that number; a decline becomes a finding.
     fn put(&mut self, event: Event, number: usize) -> Result<(), Cause>
-        ensures { (rec : List AnEvent) → Stands K.Keeper.live K.Keeper.meaning rec self.old.monitor → Put self.old.findings.list.items number (judge rec event) result self.new.findings.list.items × Stands K.Keeper.live K.Keeper.meaning (recorded rec event (judge rec event)) self.new.monitor }
+        ensures { (rec : List AnEvent) → Stands K.live K.meaning rec self.old.monitor → Put self.old.findings.list.items number (judge rec event) result self.new.findings.list.items × Stands K.live K.meaning (recorded rec event (judge rec event)) self.new.monitor }
     {
         if let Some(race) = self.offer(event)? {
             self.findings.add(Finding {
@@ -52,7 +52,7 @@ impl<K: Keeper> Run<K> {
 }
 
 impl<K: Keeper> Taker<Fault> for Run<K> {
-    ghost took = { λ s e at r t. Took K.Keeper.live K.Keeper.meaning s e at r t };
+    ghost took = { λ s e at r t. Took K.live K.meaning s e at r t };
 
     fn take(&mut self, event: Event, at: Site) -> Result<(), Fault> {
         match self.put(event, at.event) {
@@ -64,7 +64,7 @@ impl<K: Keeper> Taker<Fault> for Run<K> {
 
 // Offers all that is left of the file, up to a fault.
 fn hand_all<K: Keeper>(reader: &mut Reader<'_>, run: &mut Run<K>) -> Result<(), Fault>
-    ensures run { RunOn K.Keeper.live K.Keeper.meaning reader.old.bytes.now reader.old.at run.old reader.new.at run.new (ended result) }
+    ensures run { RunOn K.live K.meaning reader.old.bytes.now reader.old.at run.old reader.new.at run.new (ended result) }
     ensures bytes { reader.new.bytes.now ≡ reader.old.bytes.now }
 {
     while reader.hand(run)? {}
@@ -88,7 +88,7 @@ pub fn run_file<K: Keeper>(
     reader: &mut Reader<'_>,
     monitor: Monitor<K>,
 ) -> Result<Ran<K>, Monitor<K>>
-    ensures run { RanWhole K.Keeper.live K.Keeper.meaning reader.old.bytes.now reader.old.at monitor reader.new.at result }
+    ensures run { RanWhole K.live K.meaning reader.old.bytes.now reader.old.at monitor reader.new.at result }
     ensures bytes { reader.new.bytes.now ≡ reader.old.bytes.now }
 {
     let findings = match Findings::new(heap) {

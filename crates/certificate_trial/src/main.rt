@@ -1,4 +1,5 @@
 // Certificates of trace files, sound and damaged, by every kind of keeper, and what the call does to its buffer.
+#![tactic(auto)]
 
 mod calls;
 mod damaged;

@@ -1,4 +1,5 @@
 // certify: reads a trace file from standard input and prints its certificate.
+#![tactic(auto)]
 use certificate::certificate_of;
 use locksets::Locksets;
 use std::io;

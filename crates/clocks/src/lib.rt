@@ -1,4 +1,5 @@
 // The clock keeper: a clock vector for each holder and an epoch for each slot.
+#![tactic(auto)]
 pub mod keeper;
 pub mod vector;
 

@@ -48,9 +48,9 @@ impl KeeperAnswer {
 impl KeeperCall {
     // Makes the call on the keeper.
     pub fn make<K: Keeper>(self, keeper: &mut K) -> KeeperAnswer
-        ensures lives { live keeper.old → live keeper.new }
-        ensures answer { live keeper.old → result ≡ answer_to (meaning keeper.old) self }
-        ensures effect { live keeper.old → meaning keeper.new ≡ after (meaning keeper.old) self }
+        ensures lives { K.live keeper.old → K.live keeper.new }
+        ensures answer { K.live keeper.old → result ≡ answer_to (K.meaning keeper.old) self }
+        ensures effect { K.live keeper.old → K.meaning keeper.new ≡ after (K.meaning keeper.old) self }
     {
         match self {
             KeeperCall::Clear => {

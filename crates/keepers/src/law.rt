@@ -14,10 +14,10 @@ pub fn drive<K: Keeper>(
     keeper: &mut K,
     calls: &[KeeperCall],
 ) -> Result<Vec<KeeperAnswer>, AllocError>
-    ensures lives { OnOk result (live keeper.new) }
+    ensures lives { OnOk result (K.live keeper.new) }
     ensures answers { IfOk result (λ v. v.items ≡ answers_to cleared calls.now) }
-    ensures effect { OnOk result (meaning keeper.new ≡ after_all cleared calls.now) }
-    ensures within { OnOk result ((meaning keeper.new).passes ≤ 200000000) }
+    ensures effect { OnOk result (K.meaning keeper.new ≡ after_all cleared calls.now) }
+    ensures within { OnOk result ((K.meaning keeper.new).passes ≤ 200000000) }
     ensures unchanged { OnErr result (keeper.new ≡ keeper.old) }
 {
     let mut answers = Vec::with_capacity(heap, calls.len())?;
@@ -46,10 +46,10 @@ pub fn alike<A: Keeper, B: Keeper>(
 ) -> Result<BothAnswers, AllocError>
     ensures same { IfOk result (λ both. both.first.items ≡ both.second.items) }
     ensures answers { IfOk result (λ both. both.first.items ≡ answers_to cleared calls.now) }
-    ensures ends { OnOk result (A.Keeper.meaning a.new ≡ B.Keeper.meaning b.new) }
-    ensures effect { OnOk result (A.Keeper.meaning a.new ≡ after_all cleared calls.now) }
-    ensures lives { OnOk result (A.Keeper.live a.new × B.Keeper.live b.new) }
-    ensures first { OnErr result ((a.new ≡ a.old) ⊎ (A.Keeper.meaning a.new ≡ after_all cleared calls.now)) }
+    ensures ends { OnOk result (A.meaning a.new ≡ B.meaning b.new) }
+    ensures effect { OnOk result (A.meaning a.new ≡ after_all cleared calls.now) }
+    ensures lives { OnOk result (A.live a.new × B.live b.new) }
+    ensures first { OnErr result ((a.new ≡ a.old) ⊎ (A.meaning a.new ≡ after_all cleared calls.now)) }
     ensures second { OnErr result (b.new ≡ b.old) }
 {
     let first = drive(heap, a, calls)?;

@@ -18,7 +18,7 @@ use slots::{Slots, Told};
 impl<K: Keeper> Monitor<K> {
     // An empty record over the keeper, whatever that held before.
     pub fn start(keeper: K) -> Monitor<K>
-        ensures { Stands K.Keeper.live K.Keeper.meaning [] result }
+        ensures { Stands K.live K.meaning [] result }
     {
         Monitor {
             accepted: 0,
@@ -29,7 +29,7 @@ impl<K: Keeper> Monitor<K> {
 
     // How the event would be answered.
     fn check(&self, event: Event) -> Verdict
-        ensures { (rec : List AnEvent) → Stands K.Keeper.live K.Keeper.meaning rec self.now → told result ≡ judge rec event }
+        ensures { (rec : List AnEvent) → Stands K.live K.meaning rec self.now → told result ≡ judge rec event }
     {
         if let Some(fault) = self.roster.rule(self.accepted, event) {
             return Verdict::Refused { fault };
@@ -47,8 +47,8 @@ impl<K: Keeper> Monitor<K> {
 
     // Records an event that was found good, under its serial.
     fn accept(&mut self, serial: u32, event: Event)
-        ensures stands { (rec : List AnEvent) → Stands K.Keeper.live K.Keeper.meaning rec self.old → judge rec event ≡ accepted_as serial → Stands K.Keeper.live K.Keeper.meaning (event ∷ rec) self.new }
-        ensures keeper { K.Keeper.live self.old.slots.keeper → K.Keeper.meaning self.new.slots.keeper ≡ made (calls event) (K.Keeper.meaning self.old.slots.keeper) }
+        ensures stands { (rec : List AnEvent) → Stands K.live K.meaning rec self.old → judge rec event ≡ accepted_as serial → Stands K.live K.meaning (event ∷ rec) self.new }
+        ensures keeper { K.live self.old.slots.keeper → K.meaning self.new.slots.keeper ≡ made (calls event) (K.meaning self.old.slots.keeper) }
     {
         self.accepted = serial;
         self.slots.work(serial, event);
@@ -57,8 +57,8 @@ impl<K: Keeper> Monitor<K> {
 
     // Offers an event. Only an accepted one changes anything.
     pub fn offer(&mut self, event: Event) -> Verdict
-        ensures answer { (rec : List AnEvent) → Stands K.Keeper.live K.Keeper.meaning rec self.old → (told result ≡ judge rec event) × Stands K.Keeper.live K.Keeper.meaning (recorded rec event (told result)) self.new }
-        ensures keeper { K.Keeper.live self.old.slots.keeper → WhenAccepted result (K.Keeper.meaning self.new.slots.keeper ≡ made (calls event) (K.Keeper.meaning self.old.slots.keeper)) }
+        ensures answer { (rec : List AnEvent) → Stands K.live K.meaning rec self.old → (told result ≡ judge rec event) × Stands K.live K.meaning (recorded rec event (told result)) self.new }
+        ensures keeper { K.live self.old.slots.keeper → WhenAccepted result (K.meaning self.new.slots.keeper ≡ made (calls event) (K.meaning self.old.slots.keeper)) }
         ensures unchanged { UnlessAccepted result (self.new ≡ self.old) }
     {
         let verdict = self.check(event);
@@ -82,7 +82,7 @@ impl<K: Keeper> Monitor<K> {
 
     // How many events are accepted.
     pub fn accepted(&self) -> u32
-        ensures { (rec : List AnEvent) → Stands K.Keeper.live K.Keeper.meaning rec self.now → result ≡ length rec }
+        ensures { (rec : List AnEvent) → Stands K.live K.meaning rec self.now → result ≡ length rec }
     {
         self.accepted
     }
@@ -90,7 +90,7 @@ impl<K: Keeper> Monitor<K> {
     // Whether a place's latest write, or a thread's latest read of it, is there; and then its serial, and whether it has
     // reached the thread.
     pub fn ask(&self, place: u8, access: Access, thread: u8) -> Result<Option<Told>, RuleFault>
-        ensures { (rec : List AnEvent) → Stands K.Keeper.live K.Keeper.meaning rec self.now → told_of result ≡ asked rec place access thread }
+        ensures { (rec : List AnEvent) → Stands K.live K.meaning rec self.now → told_of result ≡ asked rec place access thread }
     {
         let slot = match access {
             Access::Write => 0,

@@ -45,7 +45,7 @@ pub struct Session<K> {
 
 // Makes one call.
 fn answer<K: Keeper>(monitor: &mut Monitor<K>, call: Call) -> Reply
-    ensures { (rec : List AnEvent) → Stands K.Keeper.live K.Keeper.meaning rec monitor.old → RightReply rec call result × Stands K.Keeper.live K.Keeper.meaning (after rec call result) monitor.new }
+    ensures { (rec : List AnEvent) → Stands K.live K.meaning rec monitor.old → RightReply rec call result × Stands K.live K.meaning (after rec call result) monitor.new }
 {
     match call {
         Call::Offer(event) => Reply::Judged(monitor.offer(event)),
@@ -89,7 +89,7 @@ pub fn answer_all<K: Keeper>(
     mut calls: VecDeque<Call>,
 ) -> Result<Session<K>, K>
     ensures promise { IfOk result (λ s. Promise [] calls.items s.replies.items) }
-    ensures stands { IfOk result (λ s. Stands K.Keeper.live K.Keeper.meaning (record_after [] calls.items s.replies.items) s.monitor) }
+    ensures stands { IfOk result (λ s. Stands K.live K.meaning (record_after [] calls.items s.replies.items) s.monitor) }
     ensures examples { IfOk result (λ s. All (AnsweredAs calls.items s.replies.items) examples) }
 {
     let mut replies = match Vec::with_capacity(heap, calls.len()) {

@@ -67,8 +67,8 @@ impl Slip {
 
     // Offers the transaction's commit; the slip is spent, whatever the answer.
     pub fn commit<K: Keeper>(self, monitor: &mut Monitor<K>) -> Verdict
-        ensures answer { (rec : List AnEvent) → Stands K.Keeper.live K.Keeper.meaning rec monitor.old → (told result ≡ judge rec (commit_of self)) × Stands K.Keeper.live K.Keeper.meaning (recorded rec (commit_of self) (told result)) monitor.new }
-        ensures keeper { K.Keeper.live monitor.old.slots.keeper → WhenAccepted result (K.Keeper.meaning monitor.new.slots.keeper ≡ made (calls (commit_of self)) (K.Keeper.meaning monitor.old.slots.keeper)) }
+        ensures answer { (rec : List AnEvent) → Stands K.live K.meaning rec monitor.old → (told result ≡ judge rec (commit_of self)) × Stands K.live K.meaning (recorded rec (commit_of self) (told result)) monitor.new }
+        ensures keeper { K.live monitor.old.slots.keeper → WhenAccepted result (K.meaning monitor.new.slots.keeper ≡ made (calls (commit_of self)) (K.meaning monitor.old.slots.keeper)) }
         ensures unchanged { UnlessAccepted result (monitor.new ≡ monitor.old) }
     {
         let Slip {

@@ -1,4 +1,5 @@
 // The worked examples over every pile of keepers, the limits and refusals, and a full record, one check to a line.
+#![tactic(auto)]
 mod examples;
 mod faults;
 mod full;

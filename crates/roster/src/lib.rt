@@ -1,4 +1,5 @@
 // Which threads run and who holds each lock; what refuses an event by number; what an accepted event changes.
+#![tactic(auto)]
 mod fault;
 mod locks;
 mod ranges;

@@ -28,8 +28,8 @@ impl<K: Keeper> ShortCut<K> {
     }
 
     fn clear_owned(&mut self)
-        ensures lives { K.Keeper.live self.new.below }
-        ensures effect { K.Keeper.meaning self.new.below ≡ cleared }
+        ensures lives { K.live self.new.below }
+        ensures effect { K.meaning self.new.below ≡ cleared }
         ensures owners { self.new.owners ≡ no_owners }
     {
         self.below.clear();
@@ -37,9 +37,9 @@ impl<K: Keeper> ShortCut<K> {
     }
 
     fn begin_owned(&mut self, slot: usize, thread: u8) -> Result<(), KeeperFault>
-        ensures lives { K.Keeper.live self.old.below → K.Keeper.live self.new.below }
-        ensures answer { K.Keeper.live self.old.below → result ≡ begin_answer slot thread }
-        ensures effect { K.Keeper.live self.old.below → K.Keeper.meaning self.new.below ≡ begun (K.Keeper.meaning self.old.below) slot thread }
+        ensures lives { K.live self.old.below → K.live self.new.below }
+        ensures answer { K.live self.old.below → result ≡ begin_answer slot thread }
+        ensures effect { K.live self.old.below → K.meaning self.new.below ≡ begun (K.meaning self.old.below) slot thread }
         ensures owners { MatchResult result (λ _. (s : ℕ) → owner_at self.new.owners s ≡ rewritten self.old.owners slot (Some thread) s) (λ _. self.new.owners ≡ self.old.owners) }
     {
         let answer = self.below.begin(slot, thread);
@@ -50,9 +50,9 @@ impl<K: Keeper> ShortCut<K> {
     }
 
     fn forget_owned(&mut self, slot: usize) -> Result<(), KeeperFault>
-        ensures lives { K.Keeper.live self.old.below → K.Keeper.live self.new.below }
-        ensures answer { K.Keeper.live self.old.below → result ≡ forget_answer slot }
-        ensures effect { K.Keeper.live self.old.below → K.Keeper.meaning self.new.below ≡ forgotten (K.Keeper.meaning self.old.below) slot }
+        ensures lives { K.live self.old.below → K.live self.new.below }
+        ensures answer { K.live self.old.below → result ≡ forget_answer slot }
+        ensures effect { K.live self.old.below → K.meaning self.new.below ≡ forgotten (K.meaning self.old.below) slot }
         ensures owners { (s : ℕ) → owner_at self.new.owners s ≡ rewritten self.old.owners slot None s }
     {
         self.owners.forget(slot);
@@ -61,9 +61,9 @@ impl<K: Keeper> ShortCut<K> {
 
     // A pass takes nobody out of a set, so every owner stays.
     fn pass_owned(&mut self, from: u8, to: u8) -> Result<(), KeeperFault>
-        ensures lives { K.Keeper.live self.old.below → K.Keeper.live self.new.below }
-        ensures answer { K.Keeper.live self.old.below → result ≡ pass_answer (K.Keeper.meaning self.old.below) from to }
-        ensures effect { K.Keeper.live self.old.below → K.Keeper.meaning self.new.below ≡ passed (K.Keeper.meaning self.old.below) from to }
+        ensures lives { K.live self.old.below → K.live self.new.below }
+        ensures answer { K.live self.old.below → result ≡ pass_answer (K.meaning self.old.below) from to }
+        ensures effect { K.live self.old.below → K.meaning self.new.below ≡ passed (K.meaning self.old.below) from to }
         ensures owners { self.new.owners ≡ self.old.owners }
     {
         self.below.pass(from, to)
@@ -72,7 +72,7 @@ impl<K: Keeper> ShortCut<K> {
     // Says yes to the owner without asking below.
     fn ask_owned(&self, slot: usize, holder: u8) -> Result<bool, KeeperFault>
         ensures owner { owner_at self.now.owners slot ≡ Some holder → result ≡ Ok true }
-        ensures below { (owner_at self.now.owners slot ≢ Some holder) → K.Keeper.live self.now.below → result ≡ ask_answer (K.Keeper.meaning self.now.below) slot holder }
+        ensures below { (owner_at self.now.owners slot ≢ Some holder) → K.live self.now.below → result ≡ ask_answer (K.meaning self.now.below) slot holder }
     {
         if self.owners.owner(slot) == Some(holder) {
             return Ok(true);
@@ -83,9 +83,9 @@ impl<K: Keeper> ShortCut<K> {
 
 // The meaning is that of the keeper below. While live, every remembered owner is in its slot's set.
 impl<K: Keeper> Keeper for ShortCut<K> {
-    ghost meaning = { λ k. K.Keeper.meaning k.below };
+    ghost meaning = { λ k. K.meaning k.below };
 
-    ghost live = { λ k. K.Keeper.live k.below × Owned (K.Keeper.meaning k.below) k.owners };
+    ghost live = { λ k. K.live k.below × Owned (K.meaning k.below) k.owners };
 
     fn clear(&mut self) {
         self.clear_owned();
@@ -121,9 +121,9 @@ pub fn layer_alike<K: Keeper>(
 ) -> Result<BothAnswers, AllocError>
     ensures same { IfOk result (λ both. both.first.items ≡ both.second.items) }
     ensures answers { IfOk result (λ both. both.first.items ≡ answers_to cleared calls.now) }
-    ensures ends { OnOk result (K.Keeper.meaning plain.new ≡ K.Keeper.meaning layered.new.below) }
-    ensures effect { OnOk result (K.Keeper.meaning plain.new ≡ after_all cleared calls.now) }
-    ensures first { OnErr result ((plain.new ≡ plain.old) ⊎ (K.Keeper.meaning plain.new ≡ after_all cleared calls.now)) }
+    ensures ends { OnOk result (K.meaning plain.new ≡ K.meaning layered.new.below) }
+    ensures effect { OnOk result (K.meaning plain.new ≡ after_all cleared calls.now) }
+    ensures first { OnErr result ((plain.new ≡ plain.old) ⊎ (K.meaning plain.new ≡ after_all cleared calls.now)) }
     ensures second { OnErr result (layered.new ≡ layered.old) }
 {
     alike(heap, plain, layered, calls)

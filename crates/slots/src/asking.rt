@@ -10,7 +10,7 @@ use keepers::Keeper;
 
 // Whether the thread of the event, or one from whom the event takes, is in the slot's set.
 pub(crate) fn reached<K: Keeper>(keeper: &K, slot: usize, event: Event) -> bool
-    ensures { K.Keeper.live keeper.now → slot < 576 → InBounds event → result ≡ arrived event ((K.Keeper.meaning keeper.now).sets slot) }
+    ensures { K.live keeper.now → slot < 576 → InBounds event → result ≡ arrived event ((K.meaning keeper.now).sets slot) }
 {
     holds(keeper, slot, event.thread)
         || holds_partner(keeper, slot, Partners::takes_from(event.action))
@@ -18,14 +18,14 @@ pub(crate) fn reached<K: Keeper>(keeper: &K, slot: usize, event: Event) -> bool
 
 // Whether the holder is in the slot's set.
 pub(crate) fn holds<K: Keeper>(keeper: &K, slot: usize, holder: u8) -> bool
-    ensures { K.Keeper.live keeper.now → slot < 576 → holder < 136 → result ≡ (K.Keeper.meaning keeper.now).sets slot holder }
+    ensures { K.live keeper.now → slot < 576 → holder < 136 → result ≡ (K.meaning keeper.now).sets slot holder }
 {
     keeper.ask(slot, holder).unwrap_or(false)
 }
 
 // Whether one of the partners is in the slot's set.
 fn holds_partner<K: Keeper>(keeper: &K, slot: usize, partners: Partners) -> bool
-    ensures { K.Keeper.live keeper.now → slot < 576 → AllHolders (listed partners) → result ≡ some_in (listed partners) ((K.Keeper.meaning keeper.now).sets slot) }
+    ensures { K.live keeper.now → slot < 576 → AllHolders (listed partners) → result ≡ some_in (listed partners) ((K.meaning keeper.now).sets slot) }
 {
     match partners {
         Partners::Nobody => false,
@@ -36,7 +36,7 @@ fn holds_partner<K: Keeper>(keeper: &K, slot: usize, partners: Partners) -> bool
 
 // Whether one of the places is in the slot's set.
 fn holds_place<K: Keeper>(keeper: &K, slot: usize, places: PlaceSet) -> bool
-    ensures { K.Keeper.live keeper.now → slot < 576 → result ≡ some_in (places_below 64 places.word) ((K.Keeper.meaning keeper.now).sets slot) }
+    ensures { K.live keeper.now → slot < 576 → result ≡ some_in (places_below 64 places.word) ((K.meaning keeper.now).sets slot) }
 {
     for place in 0..64u8 {
         if places.contains(place) && holds(keeper, slot, 72 + place) {

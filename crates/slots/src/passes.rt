@@ -8,7 +8,7 @@ use keepers::Keeper;
 
 // Passes from each partner to the thread, ascending. What the keeper refuses changes nothing.
 pub(crate) fn pass_in<K: Keeper>(keeper: &mut K, partners: Partners, thread: u8)
-    ensures { Made K.Keeper.live K.Keeper.meaning (passes_in thread (listed partners)) keeper.old keeper.new }
+    ensures { Made K.live K.meaning (passes_in thread (listed partners)) keeper.old keeper.new }
 {
     match partners {
         Partners::Nobody => {}
@@ -21,7 +21,7 @@ pub(crate) fn pass_in<K: Keeper>(keeper: &mut K, partners: Partners, thread: u8)
 
 // Passes from the thread to each partner, ascending.
 pub(crate) fn pass_out<K: Keeper>(keeper: &mut K, partners: Partners, thread: u8)
-    ensures { Made K.Keeper.live K.Keeper.meaning (passes_out thread (listed partners)) keeper.old keeper.new }
+    ensures { Made K.live K.meaning (passes_out thread (listed partners)) keeper.old keeper.new }
 {
     match partners {
         Partners::Nobody => {}
@@ -34,7 +34,7 @@ pub(crate) fn pass_out<K: Keeper>(keeper: &mut K, partners: Partners, thread: u8
 
 // Passes from each place to the thread, the lowest first.
 fn gather<K: Keeper>(keeper: &mut K, places: PlaceSet, thread: u8)
-    ensures { Made K.Keeper.live K.Keeper.meaning (passes_in thread (places_below 64 places.word)) keeper.old keeper.new }
+    ensures { Made K.live K.meaning (passes_in thread (places_below 64 places.word)) keeper.old keeper.new }
 {
     for place in 0..64u8 {
         if places.contains(place) {
@@ -45,7 +45,7 @@ fn gather<K: Keeper>(keeper: &mut K, places: PlaceSet, thread: u8)
 
 // Passes from the thread to each place, the lowest first.
 fn spread<K: Keeper>(keeper: &mut K, places: PlaceSet, thread: u8)
-    ensures { Made K.Keeper.live K.Keeper.meaning (passes_out thread (places_below 64 places.word)) keeper.old keeper.new }
+    ensures { Made K.live K.meaning (passes_out thread (places_below 64 places.word)) keeper.old keeper.new }
 {
     for place in 0..64u8 {
         if places.contains(place) {

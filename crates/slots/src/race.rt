@@ -26,7 +26,7 @@ impl<K: Keeper> Slots<K> {
     // The race that the event would make, if any. A read or a write has one place, a commit those
     // of its sets, any other event none.
     pub fn race(&self, event: Event) -> Option<Racing>
-        ensures { K.Keeper.live self.now.keeper → InBounds event → found_as result ≡ cell_race event (serial_at self.now.serials) (set_at (K.Keeper.meaning self.now.keeper)) }
+        ensures { K.live self.now.keeper → InBounds event → found_as result ≡ cell_race event (serial_at self.now.serials) (set_at (K.meaning self.now.keeper)) }
     {
         match event.action {
             Action::Read { place } => self.race_at(place, event),
@@ -41,7 +41,7 @@ impl<K: Keeper> Slots<K> {
 
     // The race at the lowest place that has one.
     fn lowest_race(&self, event: Event) -> Option<Racing>
-        ensures { K.Keeper.live self.now.keeper → InBounds event → found_as result ≡ cell_race event (serial_at self.now.serials) (set_at (K.Keeper.meaning self.now.keeper)) }
+        ensures { K.live self.now.keeper → InBounds event → found_as result ≡ cell_race event (serial_at self.now.serials) (set_at (K.meaning self.now.keeper)) }
     {
         for place in 0..64u8 {
             if let Some(racing) = self.race_at(place, event) {
@@ -53,7 +53,7 @@ impl<K: Keeper> Slots<K> {
 
     // The race at the place.
     fn race_at(&self, place: u8, event: Event) -> Option<Racing>
-        ensures { K.Keeper.live self.now.keeper → InBounds event → place < 64 → found_as result ≡ found place (cell_witness event place (serial_at self.now.serials place) (set_at (K.Keeper.meaning self.now.keeper) place)) }
+        ensures { K.live self.now.keeper → InBounds event → place < 64 → found_as result ≡ found place (cell_witness event place (serial_at self.now.serials place) (set_at (K.meaning self.now.keeper) place)) }
     {
         match self.witness(place, event) {
             Some(witness) => Some(Racing { place, witness }),
@@ -63,7 +63,7 @@ impl<K: Keeper> Slots<K> {
 
     // The serial of what the event races with at the place. A place that it does not access has none.
     fn witness(&self, place: u8, event: Event) -> Option<u32>
-        ensures { K.Keeper.live self.now.keeper → InBounds event → place < 64 → result ≡ cell_witness event place (serial_at self.now.serials place) (set_at (K.Keeper.meaning self.now.keeper) place) }
+        ensures { K.live self.now.keeper → InBounds event → place < 64 → result ≡ cell_witness event place (serial_at self.now.serials place) (set_at (K.meaning self.now.keeper) place) }
     {
         if writes_place(event, place) {
             self.pending_any(place, event)
@@ -77,7 +77,7 @@ impl<K: Keeper> Slots<K> {
     // What a write races with: the place's write, if that has not reached the event, otherwise the
     // read by the lowest thread that has not.
     fn pending_any(&self, place: u8, event: Event) -> Option<u32>
-        ensures { K.Keeper.live self.now.keeper → InBounds event → place < 64 → result ≡ or_else (pending_in event (serial_at self.now.serials place 0) (set_at (K.Keeper.meaning self.now.keeper) place 0)) (cell_read event (serial_at self.now.serials place) (set_at (K.Keeper.meaning self.now.keeper) place)) }
+        ensures { K.live self.now.keeper → InBounds event → place < 64 → result ≡ or_else (pending_in event (serial_at self.now.serials place 0) (set_at (K.meaning self.now.keeper) place 0)) (cell_read event (serial_at self.now.serials place) (set_at (K.meaning self.now.keeper) place)) }
     {
         match self.pending(9 * place as usize, event) {
             Some(serial) => Some(serial),
@@ -87,7 +87,7 @@ impl<K: Keeper> Slots<K> {
 
     // The serial of the read of the place by the lowest thread that has not reached the event.
     fn pending_read(&self, place: u8, event: Event) -> Option<u32>
-        ensures { K.Keeper.live self.now.keeper → InBounds event → place < 64 → result ≡ cell_read event (serial_at self.now.serials place) (set_at (K.Keeper.meaning self.now.keeper) place) }
+        ensures { K.live self.now.keeper → InBounds event → place < 64 → result ≡ cell_read event (serial_at self.now.serials place) (set_at (K.meaning self.now.keeper) place) }
     {
         for thread in 0..8u8 {
             let slot = 9 * place as usize + (thread as usize + 1);
@@ -100,7 +100,7 @@ impl<K: Keeper> Slots<K> {
 
     // The serial of the slot's access, unless there is none or it has reached the event.
     fn pending(&self, slot: usize, event: Event) -> Option<u32>
-        ensures { K.Keeper.live self.now.keeper → InBounds event → slot < 576 → result ≡ pending_in event (number_at self.now.serials slot) ((K.Keeper.meaning self.now.keeper).sets slot) }
+        ensures { K.live self.now.keeper → InBounds event → slot < 576 → result ≡ pending_in event (number_at self.now.serials slot) ((K.meaning self.now.keeper).sets slot) }
     {
         let serial = self.serials.at(slot);
         if serial == 0 {

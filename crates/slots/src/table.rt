@@ -29,8 +29,8 @@ pub struct Told {
 impl<K: Keeper> Slots<K> {
     // Clears the keeper; every slot is empty.
     pub fn start(keeper: K) -> Slots<K>
-        ensures lives { K.Keeper.live result.keeper }
-        ensures keeper { K.Keeper.meaning result.keeper ≡ cleared }
+        ensures lives { K.live result.keeper }
+        ensures keeper { K.meaning result.keeper ≡ cleared }
         ensures serials { (p k : ℕ) → serial_at result.serials p k ≡ 0 }
     {
         let mut keeper = keeper;
@@ -51,7 +51,7 @@ impl<K: Keeper> Slots<K> {
     // What is told of slot k of a place: 0 for its write, t + 1 for thread t's read; and whether
     // that access has reached the thread. Nothing is told of what is out of range.
     pub fn tell(&self, place: u8, slot: u8, thread: u8) -> Option<Told>
-        ensures { K.Keeper.live self.now.keeper → told_as result ≡ (if ltb place 64 && (nat_lt slot 9 && nat_lt thread 8) then cell_told (serial_at self.now.serials place slot) (set_at (K.Keeper.meaning self.now.keeper) place slot) thread else None) }
+        ensures { K.live self.now.keeper → told_as result ≡ (if ltb place 64 && (nat_lt slot 9 && nat_lt thread 8) then cell_told (serial_at self.now.serials place slot) (set_at (K.meaning self.now.keeper) place slot) thread else None) }
     {
         if place >= 64 || slot >= 9 || thread >= 8 {
             return None;

@@ -16,7 +16,7 @@ impl<K: Keeper> Slots<K> {
     // Passes to the event's thread, then its accesses, then passes from its thread. What the
     // keeper refuses changes nothing, and no event within its ranges is refused.
     pub fn work(&mut self, serial: u32, event: Event)
-        ensures keeper { Made K.Keeper.live K.Keeper.meaning (calls event) self.old.keeper self.new.keeper }
+        ensures keeper { Made K.live K.meaning (calls event) self.old.keeper self.new.keeper }
         ensures serials { Numbered self.old.serials self.new.serials (λ p k n. changed event p k serial 0 n) }
     {
         pass_in(
@@ -34,7 +34,7 @@ impl<K: Keeper> Slots<K> {
 
     // Begins and forgets the slots of the event's accesses.
     fn access(&mut self, serial: u32, event: Event)
-        ensures keeper { Made K.Keeper.live K.Keeper.meaning (accesses event.thread event.action) self.old.keeper self.new.keeper }
+        ensures keeper { Made K.live K.meaning (accesses event.thread event.action) self.old.keeper self.new.keeper }
         ensures serials { Numbered self.old.serials self.new.serials (λ p k n. changed event p k serial 0 n) }
     {
         match event.action {
@@ -48,7 +48,7 @@ impl<K: Keeper> Slots<K> {
 
     // A read begins its thread's slot of the place. There are eight threads.
     fn read(&mut self, place: u8, thread: u8, serial: u32)
-        ensures keeper { Made K.Keeper.live K.Keeper.meaning (looked_at thread place) self.old.keeper self.new.keeper }
+        ensures keeper { Made K.live K.meaning (looked_at thread place) self.old.keeper self.new.keeper }
         ensures serials { Numbered self.old.serials self.new.serials (by_read place thread serial) }
     {
         if thread < THREADS {
@@ -57,7 +57,7 @@ impl<K: Keeper> Slots<K> {
     }
 
     fn begin_read(&mut self, place: u8, thread: u8, serial: u32)
-        ensures keeper { Made K.Keeper.live K.Keeper.meaning (looked_at thread place) self.old.keeper self.new.keeper }
+        ensures keeper { Made K.live K.meaning (looked_at thread place) self.old.keeper self.new.keeper }
         ensures serials { (s : ℕ) → number_at self.new.serials s ≡ (if is_slot (9 * place + (thread + 1)) && s == 9 * place + (thread + 1) then serial else number_at self.old.serials s) }
     {
         let slot = 9 * place as usize + (thread as usize + 1);
@@ -67,7 +67,7 @@ impl<K: Keeper> Slots<K> {
 
     // A write begins the place's write slot and forgets its eight read slots.
     fn write(&mut self, place: u8, thread: u8, serial: u32)
-        ensures keeper { Made K.Keeper.live K.Keeper.meaning (written thread place) self.old.keeper self.new.keeper }
+        ensures keeper { Made K.live K.meaning (written thread place) self.old.keeper self.new.keeper }
         ensures serials { Numbered self.old.serials self.new.serials (by_write place serial) }
     {
         let first = 9 * place as usize;
@@ -77,7 +77,7 @@ impl<K: Keeper> Slots<K> {
     }
 
     fn forget_reads(&mut self, place: u8)
-        ensures keeper { Made K.Keeper.live K.Keeper.meaning (forget_from 8 (9 * place + 1)) self.old.keeper self.new.keeper }
+        ensures keeper { Made K.live K.meaning (forget_from 8 (9 * place + 1)) self.old.keeper self.new.keeper }
         ensures serials { Emptied self.old.serials self.new.serials (9 * place + 1) 8 }
     {
         self.forget(9 * place as usize + 1, 8);
@@ -85,7 +85,7 @@ impl<K: Keeper> Slots<K> {
 
     // An allocation forgets the slots of the object's four places.
     fn forget_object(&mut self, object: u8)
-        ensures keeper { Made K.Keeper.live K.Keeper.meaning (forget_from 36 (36 * object)) self.old.keeper self.new.keeper }
+        ensures keeper { Made K.live K.meaning (forget_from 36 (36 * object)) self.old.keeper self.new.keeper }
         ensures serials { Emptied self.old.serials self.new.serials (36 * object) 36 }
     {
         self.forget(36 * object as usize, 36);
@@ -94,7 +94,7 @@ impl<K: Keeper> Slots<K> {
     // Forgets so many slots from the first on.
     fn forget(&mut self, first: usize, count: usize)
         requires { (first ≤ 10000) × (count ≤ 36) }
-        ensures keeper { Made K.Keeper.live K.Keeper.meaning (forget_from count first) self.old.keeper self.new.keeper }
+        ensures keeper { Made K.live K.meaning (forget_from count first) self.old.keeper self.new.keeper }
         ensures serials { Emptied self.old.serials self.new.serials first count }
     {
         for slot in first..first + count {
@@ -105,7 +105,7 @@ impl<K: Keeper> Slots<K> {
 
     // A commit's accesses, the lowest place first.
     fn commit(&mut self, reads: PlaceSet, writes: PlaceSet, thread: u8, serial: u32)
-        ensures keeper { Made K.Keeper.live K.Keeper.meaning (committed 64 thread reads.word writes.word) self.old.keeper self.new.keeper }
+        ensures keeper { Made K.live K.meaning (committed 64 thread reads.word writes.word) self.old.keeper self.new.keeper }
         ensures serials { Numbered self.old.serials self.new.serials (by_commit reads.word writes.word thread serial) }
     {
         for place in 0..64u8 {
@@ -115,7 +115,7 @@ impl<K: Keeper> Slots<K> {
 
     // A commit writes each place of its write set and reads each other place of its read set.
     fn commit_at(&mut self, place: u8, reads: PlaceSet, writes: PlaceSet, thread: u8, serial: u32)
-        ensures keeper { Made K.Keeper.live K.Keeper.meaning (committed_at place thread reads.word writes.word) self.old.keeper self.new.keeper }
+        ensures keeper { Made K.live K.meaning (committed_at place thread reads.word writes.word) self.old.keeper self.new.keeper }
         ensures serials { Numbered self.old.serials self.new.serials (by_commit_at place reads.word writes.word thread serial) }
     {
         if writes.contains(place) {

@@ -1,4 +1,5 @@
 // The trace file: read over the caller's bytes, and written into the caller's buffer.
+#![tactic(auto)]
 mod codec;
 mod encode;
 mod fault;

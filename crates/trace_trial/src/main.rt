@@ -1,4 +1,5 @@
 // Damaged and limit files, read and told one to a line; and what the writer refuses.
+#![tactic(auto)]
 mod files;
 
 use events::{Action, Event};
