@@ -1,5 +1,6 @@
 // The clock keeper: a clock vector for each holder and an epoch for each slot.
 #![tactic(auto)]
+
 pub mod keeper;
 pub mod vector;
 

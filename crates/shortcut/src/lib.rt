@@ -1,5 +1,6 @@
 // The short-cut layer: stands over any keeper, and answers for the thread that began a slot by itself.
 #![tactic(auto)]
+
 pub mod layer;
 pub mod owners;
 

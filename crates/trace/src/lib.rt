@@ -1,5 +1,6 @@
 // The trace file: read over the caller's bytes, and written into the caller's buffer.
 #![tactic(auto)]
+
 mod codec;
 mod encode;
 mod fault;

@@ -5,8 +5,8 @@ use Rattle.trace.proofs.encode.put_entry.Goals as goal
 
 pub returns : goal.returns
 returns c =
-    let offset = c.to-le-bytes.ensures ∙ sym (bytes_4 c.args.offset) in
-    let size = c.to-le-bytes-2.ensures ∙ sym (bytes_4 c.args.size) in
+    let offset = c.to_le_bytes.ensures ∙ sym (bytes_4 c.args.offset) in
+    let size = c.to_le_bytes-2.ensures ∙ sym (bytes_4 c.args.size) in
     let long-offset = ap length offset ∙ length_bytes_of 4 c.args.offset in
     let long-size = ap length size ∙ length_bytes_of 4 c.args.size in
     record {

@@ -12,7 +12,7 @@ put-commit-requires c =
 pub returns-in-Commit : goal.returns-in-Commit
 returns-in-Commit c =
     let long = ap (λ a. length (operands a)) c.in-Commit.is ∙ length_sets c.in-Commit.reads.word c.in-Commit.writes.word in
-    let told = c.put-commit.ensures in
+    let told = c.put_commit.ensures in
     record {
       end = omega arith;
       words = subst Words (sym c.in-Commit.is) told.words;

@@ -30,9 +30,9 @@ loop-event-preserved c =
     let i = c.loop-event.event-index in
     let e = event_bytes (get_or es i blank) in
     let more = length_body_more es i c.loop-event-test.true in (
-      omega (arith, c.put-event-end.ensures.end),
-      c.put-event-end.ensures.after ∙ ap (λ l. laid l c.loop-event.end e) c.loop-event.invariant.1 ∙ laid_more d c.args.at c.loop-event.end (body (take i es)) e c.loop-event.invariant.0 (omega arith) ∙ ap (laid d c.args.at) (sym (body_more es i c.loop-event-test.true)),
-      All-more (λ x. Words x.action) es i blank c.loop-event-test.true c.loop-event.invariant.2 c.put-event-end.ensures.words,
+      omega (arith, c.put_event-end.ensures.end),
+      c.put_event-end.ensures.after ∙ ap (λ l. laid l c.loop-event.end e) c.loop-event.invariant.1 ∙ laid_more d c.args.at c.loop-event.end (body (take i es)) e c.loop-event.invariant.0 (omega arith) ∙ ap (laid d c.args.at) (sym (body_more es i c.loop-event-test.true)),
+      All-more (λ x. Words x.action) es i blank c.loop-event-test.true c.loop-event.invariant.2 c.put_event-end.ensures.words,
     )
 
 pub returns : goal.returns

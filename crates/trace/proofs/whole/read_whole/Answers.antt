@@ -67,16 +67,16 @@ pub loop-i-preserved : goal.loop-i-preserved
 loop-i-preserved c =
     let bs = c.args.bytes.now in
     let inv = c.loop-i.invariant in
-    let told = c.in-ok-take-section.ensures in
+    let told = c.in_ok-take_section.ensures in
     let section = told.section in
     let q = c.loop-i.reader.at in
-    let q' = c.take-section.new.self.at in
+    let q' = c.take_section.new.self.at in
     let old = c.loop-i.events.ok.0 in
-    let all = c.take-section.new.events.ok.0 in
+    let all = c.take_section.new.events.ok.0 in
     let es = section.2.0 in
     let onward = subst (λ b. Onward b (c.loop-i.i + 1) q q' es) inv.0 section.2.2 in
     let place = section.1 ∙ ap (λ b. body_end b (c.loop-i.i + 1)) inv.0 in
-    let pushed = chosen _ _ _ _ c.push.ensures.items (ap is_ok c.in-ok-push.was) in
+    let pushed = chosen _ _ _ _ c.push.ensures.items (ap is_ok c.in_ok-push.was) in
     (told.bytes ∙ inv.0, section.0, through_more inv.2 q' _ _ es _ place section.2.1 onward (omega (arith, c.len-before.ensures, c.len.ensures)) pushed)
 
 pub returns : goal.returns

@@ -27,19 +27,19 @@ section_is es done count = ap (λ m. length (body (take m (drop done es)))) (ome
 
 pub unwrap-size-requires : goal.unwrap-size-requires
 unwrap-size-requires c =
-    let within = offset_within c.loop-count.invariant c.loop-count-test.true c.requires.0.0 in
-    let same = section_is c.args.events.now c.loop-count.done (get_or c.args.counts.now c.loop-count.count_index 0) in
-    some_since c.body-size.result _ _ c.body-size.ensures (λ over. omega arith)
+    let within = offset_within c.loop-count.invariant c.loop-count-test.true c.requires.counts_in_bounds.0 in
+    let same = section_is c.args.events.now c.loop-count.done (get_or c.args.counts.now c.loop-count.count-index 0) in
+    some_since c.body_size.result _ _ c.body_size.ensures (λ over. omega arith)
 
 pub overflow-add-done : goal.overflow-add-done
 overflow-add-done c = let within = section_within c.loop-count.invariant c.loop-count-test.true c.requires.0.0 in search rules
 
 pub loop-count-preserved : goal.loop-count-preserved
 loop-count-preserved c =
-    let same = section_is c.args.events.now c.loop-count.done (get_or c.args.counts.now c.loop-count.count_index 0) in
-    let size = (MatchOption-at_some _ _ c.unwrap-size.result c.unwrap-size.ensures c.body-size.ensures).0 ∙ same in
-    let more = entries_more c.loop-count.invariant c.loop-count-test.true c.requires.0.0 c.unwrap-size.result c.put-entry-at.new.out size (omega arith) c.put-entry-at.ensures.after in
-    subst (λ at. Entries c.args.out.now c.args.counts.now c.args.events.now (c.loop-count.count_index + 1) at (c.loop-count.offset + c.unwrap-size.result) (c.loop-count.done + get_or c.args.counts.now c.loop-count.count_index 0) c.put-entry-at.new.out) (sym c.put-entry-at.ensures.end) more
+    let same = section_is c.args.events.now c.loop-count.done (get_or c.args.counts.now c.loop-count.count-index 0) in
+    let size = (MatchOption-at_some _ _ c.unwrap-size.result c.unwrap-size.ensures c.body_size.ensures).0 ∙ same in
+    let more = entries_more c.loop-count.invariant c.loop-count-test.true c.requires.counts_in_bounds.0 c.unwrap-size.result c.put-entry-at.new.out size (omega arith) c.put-entry-at.ensures.after in
+    subst (λ at. Entries c.args.out.now c.args.counts.now c.args.events.now (c.loop-count.count-index + 1) at (c.loop-count.offset + c.unwrap-size.result) (c.loop-count.done + get_or c.args.counts.now c.loop-count.count-index 0) c.put-entry-at.new.out) (sym c.put-entry-at.ensures.end) more
 
 pub returns : goal.returns
 returns c = entries_all c.args.out.now c.args.counts.now c.args.events.now _ _ _ _ _ c.loop-count.invariant c.loop-count-test.false

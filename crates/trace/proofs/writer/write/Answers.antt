@@ -16,7 +16,7 @@ pub returns-then-out-start : goal.returns-then-out-start
 returns-then-out-start c =
     let cs = c.args.counts.now in
     let es = c.args.events.now in
-    let fine = and_from _ _ (le-leb (length cs) 256 c.if-counts-gt256.false) (sym c.if-not-counts-sum-to.ensures) in
+    let fine = and_from _ _ (le-leb (length cs) 256 c.if-counts-gt256.false) (sym c.if-not-counts_sum_to.ensures) in
     let long = length_file cs es in
     let size = c.in-Some.ensures in
     record { answer = sym (written_no_room cs es (length c.args.out.now) fine (omega arith) (omega arith)); buffer = refl; back = λ e. absurd (false≢true e) }
@@ -25,11 +25,11 @@ pub returns : goal.returns
 returns c =
     let cs = c.args.counts.now in
     let es = c.args.events.now in
-    let fine = and_from _ _ (le-leb (length cs) 256 c.if-counts-gt256.false) (sym c.if-not-counts-sum-to.ensures) in
+    let fine = and_from _ _ (le-leb (length cs) 256 c.if-counts-gt256.false) (sym c.if-not-counts_sum_to.ensures) in
     let long = length_file cs es in
     let size = c.in-Some.ensures in
     record {
       answer = ap Ok (omega arith) ∙ sym (written_ok cs es (length c.args.out.now) fine (omega arith) (omega arith));
-      buffer = file_written c.args.out.now _ _ _ cs es (omega arith) c.put-header.ensures c.put-contents.ensures c.put-events.ensures.after;
-      back = λ _. reads_back cs es c.put-events.ensures.words c.if-counts-gt256.false (eqb-true _ _ (sym c.if-not-counts-sum-to.ensures)) (omega arith);
+      buffer = file_written c.args.out.now _ _ _ cs es (omega arith) c.put_header.ensures c.put_contents.ensures c.put_events.ensures.after;
+      back = λ _. reads_back cs es c.put_events.ensures.words c.if-counts-gt256.false (eqb-true _ _ (sym c.if-not-counts_sum_to.ensures)) (omega arith);
     }

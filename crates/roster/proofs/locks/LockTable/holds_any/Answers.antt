@@ -9,7 +9,7 @@ loop-lock-init c = holds_none (holder_of c.args.self.now) c.args.thread
 
 pub loop-lock-preserved : goal.loop-lock-preserved
 loop-lock-preserved c =
-    holds_more (holder_of c.args.self.now) c.args.thread c.loop-lock.lock c.loop-lock.invariant (sym c.if-is-held-by.ensures)
+    holds_more (holder_of c.args.self.now) c.args.thread c.loop-lock.lock c.loop-lock.invariant (sym c.if-is_held_by.ensures)
 
 pub returns-then-is-held-by : goal.returns-then-is-held-by
 returns-then-is-held-by c =

@@ -5,8 +5,8 @@ pub returns : goal.returns
 returns g c =
     let m = g.K.Keeper.meaning c.args.self.now.below in
     let owners = c.args.self.now.owners in
-    let does = c.pass-owned.ensures in
-    let after = c.pass-owned.new.self in
+    let does = c.pass_owned.ensures in
+    let after = c.pass_owned.new.self in
     record {
       lives = λ l. (does.lives l.0, owned_passed m (g.K.Keeper.meaning after.below) owners after.owners c.args.from c.args.to l.1 (does.effect l.0) does.owners);
       answer = λ l. does.answer l.0;

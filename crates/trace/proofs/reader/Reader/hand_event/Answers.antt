@@ -39,12 +39,12 @@ invariant-of-self-2 g c =
 pub returns : goal.returns
 returns g c =
     let self = c.args.self.now in
-    let read = c.read-event.ensures in
-    let told = sym c.at-site.ensures ∙ c.in-ok-event.was in
-    let ok = placed_ok _ c.read-event.result c.in-ok-event.event told in
+    let read = c.read_event.ensures in
+    let told = sym c.at_site.ensures ∙ c.in_ok-event.was in
+    let ok = placed_ok _ c.read_event.result c.in_ok-event.event told in
     let took = c.in-ok-take.was in
-    let place = moved_so self.bytes.now self.at c.read-event.new.at c.section-section.result c.section-section.ensures.value read.section (read.events ok) (read.byte ok) in
+    let place = moved_so self.bytes.now self.at c.read_event.new.at c.section-section.result c.section-section.ensures.value read.section (read.events ok) (read.byte ok) in
     record {
-      handed = handed_so g.T.Taker.took g.E.From.from_gives self.bytes.now self.at c.section-section.result c.section-end-end.result c.in-ok-event.event c.read-event.result c.args.taker.now c.take.new.self _ _ c.take.result (Ok tt) c.section-section.ensures.value c.section-end-end.ensures read.answer told c.take.ensures took refl (c.drop-guard-2.ensures ∙ place);
+      handed = handed_so g.T.Taker.took g.E.From.from_gives self.bytes.now self.at c.section-section.result c.section-end-end.result c.in_ok-event.event c.read_event.result c.args.taker.now c.take.new.self _ _ c.take.result (Ok tt) c.section-section.ensures.value c.section-end-end.ensures read.answer told c.take.ensures took refl (c.drop-guard-2.ensures ∙ place);
       bytes = refl;
     }

@@ -38,16 +38,16 @@ pub loop-self-preserved : goal.loop-self-preserved
 loop-self-preserved c =
     let self = c.args.self.now in
     let inv = c.loop-self.invariant in
-    let told = c.take-event.ensures in
-    let file = opened_inside self.bytes.now (self.opened c.requires.0.0) in
-    let end = within file c.args.section c.requires.0.1.1 in
+    let told = c.take_event.ensures in
+    let file = opened_inside self.bytes.now (self.opened c.requires.byte_nonzero.0) in
+    let end = within file c.args.section c.requires.byte_nonzero.1.1 in
     let q = c.loop-self.self.at in
-    let took = c.in-ok-take-event.was in
+    let took = c.in_ok-take_event.was in
     let ok = sym (ap (λ b. taken b q) inv.0) ∙ sym told.answer ∙ took in
-    let at = section_is self.bytes.now c.args.section q.byte c.requires.0.1.0 c.requires.0.1.1 inv.2 (omega arith) in
+    let at = section_is self.bytes.now c.args.section q.byte c.requires.byte_nonzero.1.0 c.requires.byte_nonzero.1.1 inv.2 (omega arith) in
     let place = told.place ∙ ap (λ r. kept r q (moved c.loop-self.self.bytes.now q)) took ∙ ap (λ b. moved b q) inv.0 in
     let fits = (taken_ok self.bytes.now q _ ok).1 in
     let fits' = subst (λ s. q.byte + size (get_or self.bytes.now q.byte 0) ≤ body_end self.bytes.now s) at fits in
     let byte = ap (λ p. p.byte) place in
     let pushed = chosen _ _ _ _ c.push.ensures.items (ap is_ok c.in-ok-push.was) in
-    (told.bytes ∙ inv.0, omega arith, omega arith, omega arith, sofar_more inv.4 (omega arith) c.take-event.new.self.at _ _ at ok place pushed)
+    (told.bytes ∙ inv.0, omega arith, omega arith, omega arith, sofar_more inv.4 (omega arith) c.take_event.new.self.at _ _ at ok place pushed)
