@@ -1,5 +1,6 @@
 // From a trace file to a certificate: the run, its text, and the call for C hosts.
 #![tactic(auto)]
+
 mod certificate;
 mod fault;
 mod finding;

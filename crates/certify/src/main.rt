@@ -1,5 +1,6 @@
 // certify: reads a trace file from standard input and prints its certificate.
 #![tactic(auto)]
+
 use certificate::certificate_of;
 use locksets::Locksets;
 use std::io;

@@ -1,5 +1,6 @@
 // The events of a recorded run: who did what, one step at a time.
 #![tactic(auto)]
+
 mod places;
 
 pub use places::PlaceSet;

@@ -1,5 +1,6 @@
 // Lists the trace file on standard input, and writes it back to see that the bytes are the same.
 #![tactic(auto)]
+
 mod words;
 
 use anyhow::anyhow;

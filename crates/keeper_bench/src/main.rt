@@ -1,5 +1,6 @@
 // Measures begins, passes and asks of each kind of keeper, if asked to.
 #![tactic(auto)]
+
 mod measure;
 
 use clocks::Clocks;

@@ -1,5 +1,6 @@
 // Drives every pile of keepers with the same calls and compares what they answer and hold.
 #![tactic(auto)]
+
 mod full;
 mod limits;
 mod piles;

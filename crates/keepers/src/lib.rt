@@ -1,5 +1,6 @@
 // The interface of a keeper: which accesses have reached whom, and how each call answers.
 #![tactic(auto)]
+
 pub mod calls;
 pub mod fault;
 pub mod keeper;

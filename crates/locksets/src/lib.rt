@@ -1,5 +1,6 @@
 // The lockset keeper: the set of holders of each slot, kept as it stands.
 #![tactic(auto)]
+
 pub mod keeper;
 pub mod set;
 

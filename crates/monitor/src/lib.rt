@@ -1,5 +1,6 @@
 // The monitor: events are offered to it, and it answers whether each may stand.
 #![tactic(auto)]
+
 mod monitor;
 mod offering;
 mod session;

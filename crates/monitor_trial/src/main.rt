@@ -1,5 +1,6 @@
 // The worked examples over every pile of keepers, the limits and refusals, and a full record, one check to a line.
 #![tactic(auto)]
+
 mod examples;
 mod faults;
 mod full;

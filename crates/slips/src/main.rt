@@ -1,5 +1,6 @@
 // Two slips committed once each and a third abandoned, on a monitor over clocks: prints what was answered.
 #![tactic(auto)]
+
 use clocks::Clocks;
 use events::{Action, Event};
 use monitor::{Monitor, Slip, Verdict};

@@ -1,5 +1,6 @@
 // Slots over any keeper: the work of an accepted event, the search for a race, the question about a slot.
 #![tactic(auto)]
+
 mod acts;
 mod asking;
 mod partners;

@@ -1,5 +1,6 @@
 // Damaged and limit files, read and told one to a line; and what the writer refuses.
 #![tactic(auto)]
+
 mod files;
 
 use events::{Action, Event};

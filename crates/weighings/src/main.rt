@@ -2,6 +2,7 @@
 //
 // Thread 0 weighs and thread 1 takes the weight: once under a lock, once by a flag and transactions, once with neither.
 #![tactic(auto)]
+
 mod calls;
 mod steps;
 mod words;
