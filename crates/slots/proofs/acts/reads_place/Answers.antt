@@ -18,6 +18,6 @@ unfolding acts
 returns-else-contains c =
     rw c.in-Commit.is (c.if-contains.false ∙ ap (λ b. b && not (member c.in-Commit.writes.word c.args.place)) c.if-contains.ensures)
 
-pub returns-in-default : goal.returns-in-default
+pub returns-in_default : goal.returns-in_default
 unfolding acts
-returns-in-default c = grind (arith, c.in-default.not-Read, c.in-default.not-Commit)
+returns-in_default c = grind (arith, c.in_default.not-Read, c.in_default.not-Commit)

@@ -11,6 +11,6 @@ pub returns-in-Commit : goal.returns-in-Commit
 unfolding acts
 returns-in-Commit c = rw c.in-Commit.is c.contains.ensures
 
-pub returns-in-default : goal.returns-in-default
+pub returns-in_default : goal.returns-in_default
 unfolding acts
-returns-in-default c = grind (arith, c.in-default.not-Write, c.in-default.not-Commit)
+returns-in_default c = grind (arith, c.in_default.not-Write, c.in_default.not-Commit)

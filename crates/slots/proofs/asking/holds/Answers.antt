@@ -5,4 +5,4 @@ use Rattle.slots.proofs.asking.holds.Goals as goal
 
 pub returns : goal.returns
 returns g c live slot holder =
-    c.unwrap-or.ensures ∙ ap (λ r. result_unwrap_or r false) (c.ask.ensures.answer live ∙ ask_taken (g.K.Keeper.meaning c.args.keeper.now) c.args.slot c.args.holder slot holder)
+    c.unwrap_or.ensures ∙ ap (λ r. result_unwrap_or r false) (c.ask.ensures.answer live ∙ ask_taken (g.K.Keeper.meaning c.args.keeper.now) c.args.slot c.args.holder slot holder)

@@ -21,5 +21,5 @@ returns-else-holds g c live slot bounds =
     let thread = thread_in_range e bounds in
     let own = sym (c.holds.ensures live slot (omega arith)) ∙ c.if-holds.false in
     let small = taken_holders e.action (in_range e bounds) in
-    let same = c.takes-from.ensures ∙ capped_same (taken e.action) small in
-    c.holds-partner.ensures live slot (subst AllHolders (sym same) small) ∙ ap (λ hs. some_in hs ((g.K.Keeper.meaning c.args.keeper.now).sets c.args.slot)) same ∙ sym (arrived_else e s own)
+    let same = c.takes_from.ensures ∙ capped_same (taken e.action) small in
+    c.holds_partner.ensures live slot (subst AllHolders (sym same) small) ∙ ap (λ hs. some_in hs ((g.K.Keeper.meaning c.args.keeper.now).sets c.args.slot)) same ∙ sym (arrived_else e s own)

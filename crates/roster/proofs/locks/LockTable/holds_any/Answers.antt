@@ -11,6 +11,6 @@ pub loop-lock-preserved : goal.loop-lock-preserved
 loop-lock-preserved c =
     holds_more (holder_of c.args.self.now) c.args.thread c.loop-lock.lock c.loop-lock.invariant (sym c.if-is_held_by.ensures)
 
-pub returns-then-is-held-by : goal.returns-then-is-held-by
-returns-then-is-held-by c =
-    sym (holds_found (holder_of c.args.self.now) c.args.thread 32 c.loop-lock.lock (omega arith) (sym c.if-is-held-by.ensures))
+pub returns-then-is_held_by : goal.returns-then-is_held_by
+returns-then-is_held_by c =
+    sym (holds_found (holder_of c.args.self.now) c.args.thread 32 c.loop-lock.lock (omega arith) (sym c.if-is_held_by.ensures))

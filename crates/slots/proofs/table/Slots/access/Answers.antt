@@ -24,9 +24,9 @@ returns-in-Write g c = record {
 pub returns-in-Allocate : goal.returns-in-Allocate
 returns-in-Allocate g c = record {
   keeper = λ live.
-      let after = c.forget-object.ensures.keeper live in
+      let after = c.forget_object.ensures.keeper live in
       (after.0, after.1 ∙ ap (λ a. made (accesses c.args.event.thread a) (g.K.Keeper.meaning c.args.self.now.keeper)) (sym c.in-Allocate.is));
-  serials = λ p k a b. c.forget-object.ensures.serials (9 * p + k) (omega arith) ∙ allocate_ruled c.args.event p k c.args.serial (serial_at c.args.self.now.serials p k) c.in-Allocate.object c.in-Allocate.is b;
+  serials = λ p k a b. c.forget_object.ensures.serials (9 * p + k) (omega arith) ∙ allocate_ruled c.args.event p k c.args.serial (serial_at c.args.self.now.serials p k) c.in-Allocate.object c.in-Allocate.is b;
 }
 
 pub returns-in-Commit : goal.returns-in-Commit
@@ -37,9 +37,9 @@ returns-in-Commit g c = record {
   serials = λ p k a b. c.commit.ensures.serials p k a b ∙ commit_ruled c.args.event p k c.args.serial (serial_at c.args.self.now.serials p k) c.in-Commit.reads c.in-Commit.writes c.in-Commit.is;
 }
 
-pub returns-in-default : goal.returns-in-default
-returns-in-default g c =
-    let inert : Inert c.args.event.action = record { read = c.in-default.not-Read; write = c.in-default.not-Write; allocate = c.in-default.not-Allocate; commit = c.in-default.not-Commit } in
+pub returns-in_default : goal.returns-in_default
+returns-in_default g c =
+    let inert : Inert c.args.event.action = record { read = c.in_default.not-Read; write = c.in_default.not-Write; allocate = c.in_default.not-Allocate; commit = c.in_default.not-Commit } in
     record {
       keeper = λ live. (live, sym (ap (λ cs. made cs (g.K.Keeper.meaning c.args.self.now.keeper)) (no_accesses c.args.event.thread c.args.event.action inert)));
       serials = λ p k a b. inert_ruled c.args.event inert p k c.args.serial (serial_at c.args.self.now.serials p k);

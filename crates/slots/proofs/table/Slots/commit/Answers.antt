@@ -23,7 +23,7 @@ loop-place-preserved g c =
     let n = c.args.serial in (
       λ live.
           let inv = c.loop-place.invariant.0 live in
-          let after = c.commit-at.ensures.keeper inv.0 in
+          let after = c.commit_at.ensures.keeper inv.0 in
           (after.0, after.1 ∙ ap (made (committed_at q t r w)) inv.1 ∙ sym (commit_more q t r w (g.K.Keeper.meaning c.args.self.now.keeper))),
-      λ p k a b. c.commit-at.ensures.serials p k a b ∙ ap (by_commit_at q r w t n p k) (c.loop-place.invariant.1 p k a b) ∙ commit_step q r w t n p k (serial_at c.args.self.now.serials p k),
+      λ p k a b. c.commit_at.ensures.serials p k a b ∙ ap (by_commit_at q r w t n p k) (c.loop-place.invariant.1 p k a b) ∙ commit_step q r w t n p k (serial_at c.args.self.now.serials p k),
     )

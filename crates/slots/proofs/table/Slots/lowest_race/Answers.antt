@@ -9,7 +9,7 @@ loop-place-init g c live bounds = races_start c.args.event (serial_at c.args.sel
 
 pub loop-place-preserved : goal.loop-place-preserved
 loop-place-preserved g c live bounds =
-    races_pass c.args.event (serial_at c.args.self.now.serials) (set_at (g.K.Keeper.meaning c.args.self.now.keeper)) c.loop-place.place c.loop-place-test.true (sym (c.in-default.ensures live bounds c.loop-place-test.true)) (c.loop-place.invariant live bounds)
+    races_pass c.args.event (serial_at c.args.self.now.serials) (set_at (g.K.Keeper.meaning c.args.self.now.keeper)) c.loop-place.place c.loop-place-test.true (sym (c.in_default.ensures live bounds c.loop-place-test.true)) (c.loop-place.invariant live bounds)
 
 pub returns-in-Some : goal.returns-in-Some
 returns-in-Some g c live bounds =

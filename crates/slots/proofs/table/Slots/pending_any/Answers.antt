@@ -14,4 +14,4 @@ returns-in-Some g c live bounds place =
 pub returns-in-None : goal.returns-in-None
 returns-in-None g c live bounds place =
     let first = c.in-None.ensures live bounds (omega arith) ∙ pending_first c.args.event (number_at c.args.self.now.serials) (g.K.Keeper.meaning c.args.self.now.keeper).sets c.args.place in
-    c.pending-read.ensures live bounds place ∙ ap (λ o. or_else o (cell_read c.args.event (serial_at c.args.self.now.serials c.args.place) (set_at (g.K.Keeper.meaning c.args.self.now.keeper) c.args.place))) first
+    c.pending_read.ensures live bounds place ∙ ap (λ o. or_else o (cell_read c.args.event (serial_at c.args.self.now.serials c.args.place) (set_at (g.K.Keeper.meaning c.args.self.now.keeper) c.args.place))) first

@@ -9,7 +9,7 @@ loop-thread-init g c live bounds place = reads_start c.args.event (serial_at c.a
 
 pub loop-thread-preserved : goal.loop-thread-preserved
 loop-thread-preserved g c live bounds place =
-    reads_pass c.args.event (serial_at c.args.self.now.serials c.args.place) (set_at (g.K.Keeper.meaning c.args.self.now.keeper) c.args.place) c.loop-thread.thread c.loop-thread-test.true (sym (c.in-default.ensures live bounds (omega arith))) (c.loop-thread.invariant live bounds place)
+    reads_pass c.args.event (serial_at c.args.self.now.serials c.args.place) (set_at (g.K.Keeper.meaning c.args.self.now.keeper) c.args.place) c.loop-thread.thread c.loop-thread-test.true (sym (c.in_default.ensures live bounds (omega arith))) (c.loop-thread.invariant live bounds place)
 
 pub returns-in-Some : goal.returns-in-Some
 returns-in-Some g c live bounds place =

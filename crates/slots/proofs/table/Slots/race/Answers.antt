@@ -11,16 +11,16 @@ returns-in-Read g c live bounds =
     let e = c.args.event in
     let p = c.in-Read.place in
     let l = in_range_of e (Read p) bounds c.in-Read.is in
-    c.race-at.ensures live bounds l ∙ sym (race_only e (serial_at c.args.self.now.serials) (set_at (g.K.Keeper.meaning c.args.self.now.keeper)) p l (read_touches e p c.in-Read.is))
+    c.race_at.ensures live bounds l ∙ sym (race_only e (serial_at c.args.self.now.serials) (set_at (g.K.Keeper.meaning c.args.self.now.keeper)) p l (read_touches e p c.in-Read.is))
 
 pub returns-in-Write : goal.returns-in-Write
 returns-in-Write g c live bounds =
     let e = c.args.event in
     let p = c.in-Write.place in
     let l = in_range_of e (Write p) bounds c.in-Write.is in
-    c.race-at-in-Write.ensures live bounds l ∙ sym (race_only e (serial_at c.args.self.now.serials) (set_at (g.K.Keeper.meaning c.args.self.now.keeper)) p l (write_touches e p c.in-Write.is))
+    c.race_at-in-Write.ensures live bounds l ∙ sym (race_only e (serial_at c.args.self.now.serials) (set_at (g.K.Keeper.meaning c.args.self.now.keeper)) p l (write_touches e p c.in-Write.is))
 
-pub returns-in-default : goal.returns-in-default
-returns-in-default g c live bounds =
-    let apart : Apart c.args.event.action = record { read = c.in-default.not-Read; write = c.in-default.not-Write; commit = c.in-default.not-Commit } in
+pub returns-in_default : goal.returns-in_default
+returns-in_default g c live bounds =
+    let apart : Apart c.args.event.action = record { read = c.in_default.not-Read; write = c.in_default.not-Write; commit = c.in_default.not-Commit } in
     sym (race_nowhere c.args.event (serial_at c.args.self.now.serials) (set_at (g.K.Keeper.meaning c.args.self.now.keeper)) (nothing_touched c.args.event apart))

@@ -9,8 +9,8 @@ returns-then-thread-lt-THREADS g c =
     let q = c.args.place in
     let u = c.args.thread in
     record {
-      keeper = c.begin-read.ensures.keeper;
-      serials = λ p k a b. c.begin-read.ensures.serials (9 * p + k) ∙ read_at q u c.args.serial p k (serial_at c.args.self.now.serials p k) (omega arith) a b;
+      keeper = c.begin_read.ensures.keeper;
+      serials = λ p k a b. c.begin_read.ensures.serials (9 * p + k) ∙ read_at q u c.args.serial p k (serial_at c.args.self.now.serials p k) (omega arith) a b;
     }
 
 pub returns-else-thread-lt-THREADS : goal.returns-else-thread-lt-THREADS

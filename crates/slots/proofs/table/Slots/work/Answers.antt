@@ -9,6 +9,6 @@ returns g c =
           let first = c.pass_in.ensures live in
           let second = c.access.ensures.keeper first.0 in
           let third = c.pass_out.ensures second.0 in
-          (third.0, all_made c.args.event (listed c.takes-from.result) (listed c.gives-to.result) (g.K.Keeper.meaning c.args.self.now.keeper) _ _ _ c.takes-from.ensures c.gives-to.ensures first.1 second.1 third.1);
+          (third.0, all_made c.args.event (listed c.takes_from.result) (listed c.gives_to.result) (g.K.Keeper.meaning c.args.self.now.keeper) _ _ _ c.takes_from.ensures c.gives_to.ensures first.1 second.1 third.1);
       serials = c.access.ensures.serials;
     }

@@ -10,8 +10,8 @@ returns g c =
     let q = c.args.place in
     record {
       keeper = λ live.
-          let after = c.forget-reads.ensures.keeper (c.begin.ensures.lives live) in
+          let after = c.forget_reads.ensures.keeper (c.begin.ensures.lives live) in
           (after.0, after.1 ∙ ap (made (forget_from 8 (9 * q + 1))) (c.begin.ensures.effect live));
       serials = λ p k a b.
-          c.forget-reads.ensures.serials (9 * p + k) (omega arith) ∙ write_at q c.args.serial p k _ (serial_at c.args.self.now.serials p k) a b (c.put.ensures (9 * p + k));
+          c.forget_reads.ensures.serials (9 * p + k) (omega arith) ∙ write_at q c.args.serial p k _ (serial_at c.args.self.now.serials p k) a b (c.put.ensures (9 * p + k));
     }
