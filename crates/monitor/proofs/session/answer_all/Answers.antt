@@ -11,11 +11,11 @@ loop-call-init g c =
 pub loop-call-preserved : goal.loop-call-preserved
 loop-call-preserved g c =
     let popped = c.in-Some.ensures in
-    let pushed = c.push-reserved.ensures in
+    let pushed = c.push_reserved.ensures in
     (sofar_more c.loop-call.invariant.0 _ _ c.answer.new.monitor c.in-Some.call c.answer.result popped.items pushed.items c.answer.ensures, omega (arith, popped.len, pushed.len, pushed.capacity, c.loop-call.invariant.1))
 
 pub returns : goal.returns
 returns g c =
-    let none = nil_from_length (deque_items c.loop-call.calls) (omega (arith, c.loop-call.calls.ok.0, c.in-default.ensures.cases.0)) in
+    let none = nil_from_length (deque_items c.loop-call.calls) (omega (arith, c.loop-call.calls.ok.0, c.in_default.ensures.cases.0)) in
     let all = sofar_all c.loop-call.invariant.0 none in
     record { promise = all.0; stands = all.1; examples = examples_answered _ _ all.0 }

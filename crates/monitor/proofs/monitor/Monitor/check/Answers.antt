@@ -13,7 +13,7 @@ returns-in-Some-race g c rec stands =
     let meaning = g.K.Keeper.meaning in
     let m = c.args.self.now in
     let e = c.args.event in
-    let none = no_fault live meaning rec m stands e c.in-default.ensures in
+    let none = no_fault live meaning rec m stands e c.in_default.ensures in
     sym (judged_racing live meaning rec m stands e _ none (sym (c.in-Some-race.ensures stands.lives (bounded live meaning rec m stands e none))))
 
 pub returns-in-None : goal.returns-in-None
@@ -22,5 +22,5 @@ returns-in-None g c rec stands =
     let meaning = g.K.Keeper.meaning in
     let m = c.args.self.now in
     let e = c.args.event in
-    let none = no_fault live meaning rec m stands e c.in-default.ensures in
-    ap accepted (omega (arith, c.saturating-add.ensures)) ∙ sym (judged_free live meaning rec m stands e none (sym (c.in-None.ensures stands.lives (bounded live meaning rec m stands e none))))
+    let none = no_fault live meaning rec m stands e c.in_default.ensures in
+    ap accepted (omega (arith, c.saturating_add.ensures)) ∙ sym (judged_free live meaning rec m stands e none (sym (c.in-None.ensures stands.lives (bounded live meaning rec m stands e none))))
