@@ -1,5 +1,5 @@
 -- The entries of the contents, one after another. Assumes nothing.
-use Rattle.std.proofs.Common.{◌≡◌, ℕ, zero, suc, ◌+◌, ◌-◌, ◌*◌, ◌<◌, ◌≤◌, Bool, true, false, cond, ltb, List, length, Some, None, Option, sym, refl, ap, ◌∙◌, subst, add-one, arith}
+use Rattle.std.proofs.Common.{◌≡◌, ℕ, suc, ◌+◌, ◌-◌, ◌*◌, ◌<◌, ◌≤◌, true, false, cond, ltb, List, length, Some, None, Option, sym, refl, ap, ◌∙◌, add-one, arith}
 use Rattle.trace.specs.declared.fault.TraceFault.TheVariants.{Contents}
 use Rattle.trace.specs.Layout.{count, entry_length, body_end, good_entry, bad_entry, at_start, entries, opening, Header}
 

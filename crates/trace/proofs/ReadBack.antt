@@ -1,7 +1,7 @@
 -- A file that was written reads whole, as the events and sections that were written. Assumes nothing.
-use Rattle.std.proofs.Common.{◌≡◌, ℕ, zero, suc, ◌+◌, ◌-◌, ◌*◌, ◌^◌, ◌<◌, ◌≤◌, true, false, cond, not, eqb, ltb, leb, List, [], ◌∷◌, ◌++◌, length, get_or, take, drop, Some, None, Ok, Err, sum, sym, refl, ap, ◌∙◌, subst, add-one, arith}
+use Rattle.std.proofs.Common.{◌≡◌, ℕ, suc, ◌+◌, ◌-◌, ◌*◌, ◌^◌, ◌<◌, ◌≤◌, cond, not, eqb, ltb, leb, List, [], ◌∷◌, ◌++◌, length, get_or, take, drop, None, Ok, sum, sym, refl, ap, ◌∙◌, subst, add-one, arith}
 use Rattle.std.proofs.ByRecursion.{All-take, All-drop}
-use Rattle.std.proofs.lemmas.List.{append-nil, append_assoc, length-append, length-drop, take_at, take-append-le, drop_at, drop-drop, get_or-drop, nil_from_length}
+use Rattle.std.proofs.lemmas.List.{append_assoc, length-append, length-drop, take_at, drop_at, drop-drop, get_or-drop, nil_from_length}
 use Rattle.std.proofs.lemmas.List.Sums.{sum_by-cons}
 use Rattle.std.proofs.lemmas.Bool.{and_from, eq-eqb, le-leb, lt-leb, le-ltb, cond-true, cond-false, not_from_true}
 use Rattle.std.specs.List.{AllByRecursion as All}
@@ -11,16 +11,16 @@ use Rattle.events.specs.declared.Action.TheVariants.{Read, Write, Acquire, Relea
 use Rattle.trace.specs.declared.place.Place.{Place}
 use Rattle.trace.specs.Words.{number, bytes_of, word}
 use Rattle.trace.specs.Codec.{kind, operands, event_bytes, size, simple, set_at, action_at, decoded, event_at, Words}
-use Rattle.trace.specs.Layout.{count, entry_offset, entry_length, body_end, good_entry, bad_entry, entries, opening, section_at}
-use Rattle.trace.specs.Reading.{origin, site, placed, taken, moved}
-use Rattle.trace.specs.File.{body, contents, file, lawful}
+use Rattle.trace.specs.Layout.{count, entry_offset, entry_length, body_end, good_entry, bad_entry, entries, opening}
+use Rattle.trace.specs.Reading.{origin, site, placed, moved}
+use Rattle.trace.specs.File.{body, contents, file}
 use Rattle.trace.specs.Whole.{Reads, in_section, tagged, Contains}
 use Rattle.trace.proofs.Numbers.{number_bytes_of, length_bytes_of}
 use Rattle.trace.proofs.Events.{length_event}
 use Rattle.trace.proofs.Entries.{body_end_none, body_end_more}
 use Rattle.trace.proofs.Opened.{Opened, opened, within, section_is, size_some}
 use Rattle.trace.proofs.Bodies.{body_none, body_cons, body_split}
-use Rattle.trace.proofs.Contents.{entry_bytes, length_entry, contents_none, contents_cons, length_contents, part_left}
+use Rattle.trace.proofs.Contents.{entry_bytes, length_entry, contents_cons, length_contents, part_left}
 use Rattle.trace.proofs.Sections.{reads_more, reads_end}
 use Rattle.trace.proofs.Writing.{length_file}
 

@@ -1,12 +1,11 @@
 -- A file that reads whole is the file of what was read. Assumes nothing.
-use Rattle.std.proofs.Common.{◌≡◌, ℕ, zero, suc, ◌+◌, ◌-◌, ◌*◌, ◌<◌, ◌≤◌, cond, eqb, leb, ◌⊎◌, List, [], ◌∷◌, ◌++◌, map, length, get_or, take, drop, None, Ok, sum, sym, refl, ap, ◌∙◌, subst, ⊎_elim, add-one, arith}
-use Rattle.std.proofs.ByRecursion.{All-append, All-map, All-from_get_or}
-use Rattle.std.proofs.lemmas.List.{append-nil, append_assoc, map-append, map-id, length-append, length-drop, length-take-le, take-append-drop, drop-drop, drop_more, drop_all, nil_from_length}
+use Rattle.std.proofs.Common.{◌≡◌, ℕ, zero, suc, ◌+◌, ◌-◌, ◌*◌, ◌<◌, ◌≤◌, cond, eqb, leb, List, [], ◌∷◌, ◌++◌, map, length, get_or, take, drop, None, sum, sym, refl, ap, ◌∙◌, subst, ⊎_elim, add-one, arith}
+use Rattle.std.proofs.ByRecursion.{All-append, All-map}
+use Rattle.std.proofs.lemmas.List.{map-append, length-append, length-drop, length-take-le, take-append-drop, drop-drop, drop_more, drop_all, nil_from_length}
 use Rattle.std.proofs.lemmas.List.Sums.{sum_by-cons}
 use Rattle.std.proofs.lemmas.Bool.{cases_eq, cases_lt, eq-eqb, ne_eqb, cond-true, cond-false, lt-leb, cond_both}
 use Rattle.std.specs.List.{AllByRecursion as All}
 use Rattle.events.specs.declared.Event.{Event}
-use Rattle.events.specs.declared.Action.{Action}
 use Rattle.events.specs.declared.Action.TheVariants.{Commit}
 use Rattle.trace.specs.declared.place.Place.{Place}
 use Rattle.trace.specs.Words.{bytes_of, word, Bytes}

@@ -1,6 +1,6 @@
 -- The contents being written, entry by entry. Assumes nothing.
-use Rattle.std.proofs.Common.{◌≡◌, ℕ, suc, ◌+◌, ◌-◌, ◌*◌, ◌<◌, ◌≤◌, true, cond, ltb, List, [], ◌∷◌, ◌++◌, length, get_or, take, drop, Ok, Err, sum, sym, refl, ap, ◌∙◌, subst, arith}
-use Rattle.std.proofs.lemmas.List.{append_assoc, length-append, length-take-le, take-append-drop, take-take, take_all, drop-take, drop_all}
+use Rattle.std.proofs.Common.{◌≡◌, ℕ, ◌+◌, ◌*◌, ◌<◌, ◌≤◌, true, cond, ltb, List, ◌++◌, length, get_or, take, drop, Ok, Err, sum, sym, refl, ap, ◌∙◌, arith}
+use Rattle.std.proofs.lemmas.List.{append_assoc, length-append, length-take-le, take-append-drop, take-take, take_all, drop-take}
 use Rattle.std.proofs.lemmas.List.Sums.{sum_by_more, sum_by-take-le}
 use Rattle.std.proofs.lemmas.Bool.{cond-true, cond-false, lt-ltb, le-ltb}
 use Rattle.events.specs.declared.Event.{Event}
@@ -10,7 +10,7 @@ use Rattle.trace.specs.File.{body, contents, file, lawful, written, laid}
 use Rattle.trace.proofs.Numbers.{length_bytes_of}
 use Rattle.trace.proofs.Bodies.{body_none, body_append, length_body_take}
 use Rattle.trace.proofs.Buffers.{laid_none, laid_more, laid_two}
-use Rattle.trace.proofs.Contents.{entry_bytes, length_entry, contents_none, contents_more, length_contents, part_taken, part_left}
+use Rattle.trace.proofs.Contents.{entry_bytes, length_entry, contents_more, length_contents, part_taken, part_left}
 
 -- all entries of the contents
 abbrev all : List ℕ → List Event → List ℕ

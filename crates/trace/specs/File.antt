@@ -5,7 +5,7 @@
 --   lawful counts events     there are few enough sections, and they hold just the events
 --   written counts events room   what the writer answers with a buffer of so many bytes
 --   laid out at bs           the buffer with the bytes bs from `at` on
-use Rattle.std.specs.Prelude.{ℕ, ◌+◌, ◌*◌, Bool, cond, not, ◌&&◌, List, [], ◌∷◌, ◌++◌, length, take, drop, Ok, Err, sum, Result, ◌==◌, nat_le, nat_lt}
+use Rattle.std.specs.Prelude.{ℕ, ◌+◌, ◌*◌, Bool, cond, ◌&&◌, List, [], ◌∷◌, ◌++◌, length, take, drop, Ok, Err, sum, Result, ◌==◌, nat_le, nat_lt}
 use Rattle.std.specs.List.{flat_map}
 use Rattle.events.specs.declared.Event.{Event}
 use Rattle.trace.specs.declared.fault.WriteFault.{WriteFault}

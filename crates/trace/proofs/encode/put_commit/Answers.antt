@@ -19,6 +19,6 @@ returns c =
     let first = laid_two c.args.out.now _ _ c.args.at _ head _ head (bytes_of 8 r) c.put-operands.ensures.after c.put-second.ensures.after c.put-operands.ensures.end (omega arith) refl reads in
     record {
       end = omega arith;
-      words = (omega (arith, c.word.ok, c.word.ensures), omega (arith, c.word-2.ok, c.word-2.ensures));
+      words = (omega (arith, c.word.type_inv, c.word.ensures), omega (arith, c.word-2.type_inv, c.word-2.ensures));
       after = laid_two c.args.out.now _ _ c.args.at _ (head ++ bytes_of 8 r) _ (head ++ bytes_of 8 r) (bytes_of 8 w) first c.put.ensures.after (omega arith) (omega arith) refl writes;
     }

@@ -4,8 +4,8 @@ use Rattle.trace.specs.File.{laid}
 use Rattle.trace.proofs.Events.{length_sets}
 use Rattle.trace.proofs.encode.put_event.Goals as goal
 
-pub put-commit-requires : goal.put-commit-requires
-put-commit-requires c =
+pub put_commit-requires : goal.put_commit-requires
+put_commit-requires c =
     let long = ap (λ a. length (operands a)) c.in-Commit.is ∙ length_sets c.in-Commit.reads.word c.in-Commit.writes.word in
     omega arith
 

@@ -13,8 +13,8 @@ loop-event-init c =
     let none = ap length body_none in
     (omega arith, sym (ap (laid c.args.out.now c.args.at) body_none ∙ laid_none c.args.out.now c.args.at), tt)
 
-pub put-event-end-requires : goal.put-event-end-requires
-put-event-end-requires c =
+pub put_event-end-requires : goal.put_event-end-requires
+put_event-end-requires c =
     let es = c.args.events.now in
     let i = c.loop-event.event-index in
     let more = length_body_more es i c.loop-event-test.true in

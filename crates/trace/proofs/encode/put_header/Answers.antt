@@ -1,4 +1,4 @@
-use Rattle.std.proofs.Common.{sym, ap, ◌∙◌, arith}
+use Rattle.std.proofs.Common.{sym, ◌∙◌, arith}
 use Rattle.trace.proofs.Numbers.{bytes_2}
 use Rattle.trace.proofs.Buffers.{laid_two}
 use Rattle.trace.proofs.encode.put_header.Goals as goal

@@ -1,4 +1,4 @@
-use Rattle.std.proofs.Common.{◌≡◌, ◌+◌, ◌-◌, ◌*◌, ltb, length, sym, ap, ◌∙◌, arith}
+use Rattle.std.proofs.Common.{◌+◌, ◌*◌, sym, ap, ◌∙◌, arith}
 use Rattle.std.proofs.lemmas.Bool.{lt-ltb, le-ltb, cond-true, cond-false}
 use Rattle.trace.specs.Layout.{bad_entry}
 use Rattle.trace.proofs.Entries.{body_end_none, body_end_more, bad_entry_more, opens_at_entry, opens_at_end}
@@ -8,9 +8,9 @@ pub loop-i-init : goal.loop-i-init
 loop-i-init c =
     (ap (λ n. 4 + 8 * n) c.requires.sections ∙ sym (body_end_none c.args.bytes.now), c.requires.room, ap (λ k. bad_entry c.args.bytes.now k 0) (omega arith))
 
-pub returns-in-default : goal.returns-in-default
-returns-in-default c =
-    opens_at_entry c.args.bytes.now c.args.sections c.requires c.loop-i.i c.loop-i.invariant.2 c.loop-i-test.true c.in-default.ensures ∙ sym c.early.ensures
+pub returns-in_default : goal.returns-in_default
+returns-in_default c =
+    opens_at_entry c.args.bytes.now c.args.sections c.requires c.loop-i.i c.loop-i.invariant.2 c.loop-i-test.true c.in_default.ensures ∙ sym c.early.ensures
 
 pub loop-i-preserved : goal.loop-i-preserved
 loop-i-preserved c =

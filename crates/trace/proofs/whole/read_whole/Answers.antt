@@ -11,55 +11,58 @@ use Rattle.trace.proofs.Steps.{entered_ok}
 use Rattle.trace.proofs.Rewrite.{rewritten}
 use Rattle.trace.proofs.Sections.{Through, through_none, through_more, through_all, whole_fails}
 use Rattle.trace.proofs.whole.read_whole.Goals as goal
-use Rattle.trace.proofs.whole.read_whole.Goals.{In-ok-sections}
+use Rattle.trace.proofs.whole.read_whole.Goals.{In_ok-sections}
 
 -- the file opens, and the reader stands before its first event
-opens : (c : In-ok-sections) → (opening c.args.bytes.now ≡ None) × (c.in-ok-sections.sections ≡ count c.args.bytes.now) × (c.contents.new.self.at ≡ origin c.args.bytes.now)
+opens : (c : In_ok-sections) → (opening c.args.bytes.now ≡ None) × (c.in_ok-sections.sections ≡ count c.args.bytes.now) × (c.contents.new.self.at ≡ origin c.args.bytes.now)
 opens c =
     let bs = c.args.bytes.now in
     let held = c.new-reader.result.bytes.now in
     let same = c.new-reader.ensures.0 in
     let told = c.contents.ensures in
-    let first = entered_ok bs c.in-ok-sections.sections (ap (λ b. sections_or b (opening b)) (sym same) ∙ sym told.answer ∙ c.in-ok-sections.was) in
+    let first = entered_ok bs c.in_ok-sections.sections (ap (λ b. sections_or b (opening b)) (sym same) ∙ sym told.answer ∙ c.in_ok-sections.was) in
     (first.0, first.1, told.place ∙ ap (λ b. inside b c.new-reader.result.at) same ∙ ap (inside bs) c.new-reader.ensures.1 ∙ first.2)
 
 pub loop-i-init : goal.loop-i-init
 loop-i-init c =
-    let first = opens (goal.at.loop-i-init c).In-ok-sections in
+    let first = opens (goal.at.loop-i-init c).In_ok-sections in
     let byte = ap (λ p. p.byte) first.2 in (
       c.contents.ensures.bytes ∙ c.new-reader.ensures.0,
       omega arith,
       subst (λ es. Through c.args.bytes.now 0 c.contents.new.self.at (vec_items c.new-counts.result) es) (sym c.new-events.ensures.items) (subst (λ cs. Through c.args.bytes.now 0 c.contents.new.self.at cs _) (sym c.new-counts.ensures.items) (through_none c.args.bytes.now c.contents.new.self.at first.2)),
     )
 
-pub take-section-requires : goal.take-section-requires
-take-section-requires c =
-    let first = opens (goal.at.take-section-requires c).In-ok-sections in
+pub take_section-requires : goal.take_section-requires
+take_section-requires c =
+    let first = opens (goal.at.take_section-requires c).In_ok-sections in
     let inv = c.loop-i.invariant in
     let many = ap count inv.0 in
     let held = c.loop-i.reader.bytes.now in
     let here = ap (λ b. body_end b c.loop-i.i) inv.0 in
     let same : c.loop-i.i + 1 - 1 ≡ c.loop-i.i = omega arith in
     let rise = ends_ordered held c.loop-i.i (c.loop-i.i + 1) (omega arith) in
-    ((inv.1, (omega arith, omega (arith, first.1))), (subst (λ s. body_end held s ≤ c.loop-i.reader.at.byte) (sym same) (omega (arith, inv.2.place)), omega (arith, inv.2.place)))
+    record {
+      byte_nonzero = (inv.1, (omega arith, omega (arith, first.1)));
+      section_bound = (subst (λ s. body_end held s ≤ c.loop-i.reader.at.byte) (sym same) (omega (arith, inv.2.place)), omega (arith, inv.2.place));
+    }
 
-pub returns-in-err-take-section : goal.returns-in-err-take-section
-returns-in-err-take-section c =
-    let p = err_from_is_err_and c.from-residual-in-err-take-section.result c.from-residual-in-err-take-section.ensures.1 in
-    let first = opens (goal.at.returns-in-err-take-section c).In-ok-sections in
+pub returns-in_err-take_section : goal.returns-in_err-take_section
+returns-in_err-take_section c =
+    let p = err_from_is_err_and c.from_residual-in_err-take_section.result c.from_residual-in_err-take_section.ensures.1 in
+    let first = opens (goal.at.returns-in_err-take_section c).In_ok-sections in
     let bs = c.args.bytes.now in
     let inv = c.loop-i.invariant in
-    let y = c.in-err-take-section.field-0.0 in
+    let y = c.in_err-take_section.field-0.0 in
     let q = c.loop-i.reader.at in
-    let q' = c.take-section.new.self.at in
-    let section = subst (λ b. SectionRead b (c.loop-i.i + 1) q q' (vec_items c.loop-i.events) (vec_items c.take-section.new.events) (Err y)) inv.0 c.in-err-take-section.ensures.section in
-    subst (WholeRead bs) (sym (p.1 ∙ ap Err p.2)) (whole_fails bs c.loop-i.i (c.loop-i.i + 1) q q' (vec_items c.loop-i.counts) (vec_items c.loop-i.events) (vec_items c.loop-i.events) (vec_items c.take-section.new.events) first.0 inv.2 y section)
+    let q' = c.take_section.new.self.at in
+    let section = subst (λ b. SectionRead b (c.loop-i.i + 1) q q' (vec_items c.loop-i.events) (vec_items c.take_section.new.events) (Err y)) inv.0 c.in_err-take_section.ensures.section in
+    subst (WholeRead bs) (sym (p.1 ∙ ap Err p.2)) (whole_fails bs c.loop-i.i (c.loop-i.i + 1) q q' (vec_items c.loop-i.counts) (vec_items c.loop-i.events) (vec_items c.loop-i.events) (vec_items c.take_section.new.events) first.0 inv.2 y section)
 
-pub overflow-sub-len : goal.overflow-sub-len
-overflow-sub-len c =
-    let section = c.in-ok-take-section.ensures.section.2 in
+pub overflow_sub-len : goal.overflow_sub-len
+overflow_sub-len c =
+    let section = c.in_ok-take_section.ensures.section.2 in
     let old = c.loop-i.events.ok.0 in
-    let all = c.take-section.new.events.ok.0 in
+    let all = c.take_section.new.events.ok.0 in
     let long = ap length section.1 ∙ length-append (vec_items c.loop-i.events) section.0 in
     omega (arith, c.len-before.ensures, c.len.ensures)
 
@@ -81,7 +84,7 @@ loop-i-preserved c =
 
 pub returns : goal.returns
 returns c =
-    let first = opens (goal.at.returns c).In-ok-sections in
+    let first = opens (goal.at.returns c).In_ok-sections in
     let all = through_all c.loop-i.invariant.2 first.0 (omega (arith, first.1)) in
-    let bytes = All-from_get_or (λ b. b < 256) c.args.bytes.now 0 (λ i _. omega (arith, c.type-inv.bytes i)) in
+    let bytes = All-from_get_or (λ b. b < 256) c.args.bytes.now 0 (λ i _. omega (arith, c.type_inv.bytes i)) in
     (all, rewritten c.args.bytes.now (vec_items c.loop-i.counts) (vec_items c.loop-i.events) bytes all)

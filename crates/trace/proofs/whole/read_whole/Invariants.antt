@@ -1,4 +1,4 @@
-use Rattle.std.proofs.Common.{◌≡◌, ◌<◌, false, is_some, vec_items}
+use Rattle.std.proofs.Common.{◌≡◌, ◌<◌, vec_items}
 use Rattle.trace.proofs.Sections.{Through}
 use Rattle.trace.proofs.whole.read_whole.Given as goal
 

@@ -1,40 +1,39 @@
-use Rattle.std.proofs.Common.{◌≡◌, cond, is_ok, Ok, Err, sym, refl, ap, ◌∙◌, subst, arith}
+use Rattle.std.proofs.Common.{Ok, Err, sym, refl, ap, ◌∙◌, subst, arith}
 use Rattle.std.proofs.lemmas.Result.{err_from_is_err_and}
-use Rattle.trace.specs.Reading.{Stands, moved}
-use Rattle.trace.specs.Handing.{answered}
+use Rattle.trace.specs.Reading.{Stands}
 use Rattle.trace.proofs.Opened.{opened_inside, within, stands_behind, placed_ok}
 use Rattle.trace.proofs.HandedOn.{moved_so, handed_so}
 use Rattle.trace.proofs.reader.Reader.hand_event.Goals as goal
 
-pub read-event-requires : goal.read-event-requires
-read-event-requires g c =
+pub read_event-requires : goal.read_event-requires
+read_event-requires g c =
     let file = opened_inside c.args.self.now.bytes.now (c.args.self.now.opened c.requires.0) in
     let end = within file c.section-section.result c.section-section.ensures.within.1 in
     let stands = c.args.self.now.stands c.requires.0 in
     let around = c.section-section.ensures.around in
     (omega arith, (omega arith, stands.3))
 
-pub returns-in-err-take : goal.returns-in-err-take
-returns-in-err-take g c =
-    let p = err_from_is_err_and c.from-residual-in-err-take.result c.from-residual-in-err-take.ensures.1 in
-    let y = c.in-err-take.field-0.0 in
-    let read = c.read-event.ensures in
-    let ok = sym c.at-site.ensures ∙ c.in-ok-event.was in
-    let failed = c.in-err-take.was in
+pub returns-in_err-take : goal.returns-in_err-take
+returns-in_err-take g c =
+    let p = err_from_is_err_and c.from_residual-in_err-take.result c.from_residual-in_err-take.ensures.1 in
+    let y = c.in_err-take.field-0.0 in
+    let read = c.read_event.ensures in
+    let ok = sym c.at_site.ensures ∙ c.in_ok-event.was in
+    let failed = c.in_err-take.was in
     record {
-      handed = handed_so g.T.Taker.took g.E.From.from_gives c.args.self.now.bytes.now c.args.self.now.at c.section-section.result c.section-end-end.result c.in-ok-event.event c.read-event.result c.args.taker.now c.take.new.self _ c.from-residual-in-err-take.result c.take.result (Err y) c.section-section.ensures.value c.section-end-end.ensures read.answer ok c.take.ensures failed (p.1 ∙ ap Err p.2) c.drop-guard-in-err-take.ensures;
+      handed = handed_so g.T.Taker.took g.E.From.from_gives c.args.self.now.bytes.now c.args.self.now.at c.section-section.result c.section_end-end.result c.in_ok-event.event c.read_event.result c.args.taker.now c.take.new.self _ c.from_residual-in_err-take.result c.take.result (Err y) c.section-section.ensures.value c.section_end-end.ensures read.answer ok c.take.ensures failed (p.1 ∙ ap Err p.2) c.drop-guard-in_err-take.ensures;
       bytes = refl;
     }
 
-pub invariant-of-self-2 : goal.invariant-of-self-2
-invariant-of-self-2 g c =
+pub invariant_of-self-2 : goal.invariant_of-self-2
+invariant_of-self-2 g c =
     let self = c.args.self.now in
     let file = opened_inside self.bytes.now (self.opened c.requires.0) in
     let place = c.section-section.ensures in
-    let ok = placed_ok _ c.read-event.result c.in-ok-event.event (sym c.at-site.ensures ∙ c.in-ok-event.was) in
-    let read = c.read-event.ensures in
-    let stands = stands_behind file self.at c.read-event.new.at c.section-section.result _ place.within.1 place.around.0 (self.stands c.requires.0).3 read.section (read.events ok) (read.byte ok) (omega (arith, read.inside ok)) in
-    (λ _. self.opened c.requires.0, (λ _. subst (Stands self.bytes.now) (sym c.drop-guard-2.ensures) stands, tt))
+    let ok = placed_ok _ c.read_event.result c.in_ok-event.event (sym c.at_site.ensures ∙ c.in_ok-event.was) in
+    let read = c.read_event.ensures in
+    let stands = stands_behind file self.at c.read_event.new.at c.section-section.result _ place.within.1 place.around.0 (self.stands c.requires.0).3 read.section (read.events ok) (read.byte ok) (omega (arith, read.inside ok)) in
+    record { opened = λ _. self.opened c.requires.0; stands = λ _. subst (Stands self.bytes.now) (sym c.drop-guard-2.ensures) stands }
 
 pub returns : goal.returns
 returns g c =
@@ -42,9 +41,9 @@ returns g c =
     let read = c.read_event.ensures in
     let told = sym c.at_site.ensures ∙ c.in_ok-event.was in
     let ok = placed_ok _ c.read_event.result c.in_ok-event.event told in
-    let took = c.in-ok-take.was in
+    let took = c.in_ok-take.was in
     let place = moved_so self.bytes.now self.at c.read_event.new.at c.section-section.result c.section-section.ensures.value read.section (read.events ok) (read.byte ok) in
     record {
-      handed = handed_so g.T.Taker.took g.E.From.from_gives self.bytes.now self.at c.section-section.result c.section-end-end.result c.in_ok-event.event c.read_event.result c.args.taker.now c.take.new.self _ _ c.take.result (Ok tt) c.section-section.ensures.value c.section-end-end.ensures read.answer told c.take.ensures took refl (c.drop-guard-2.ensures ∙ place);
+      handed = handed_so g.T.Taker.took g.E.From.from_gives self.bytes.now self.at c.section-section.result c.section_end-end.result c.in_ok-event.event c.read_event.result c.args.taker.now c.take.new.self _ _ c.take.result (Ok tt) c.section-section.ensures.value c.section_end-end.ensures read.answer told c.take.ensures took refl (c.drop-guard-2.ensures ∙ place);
       bytes = refl;
     }

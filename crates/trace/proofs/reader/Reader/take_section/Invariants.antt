@@ -1,4 +1,4 @@
-use Rattle.std.proofs.Common.{◌≡◌, ◌-◌, ◌<◌, ◌≤◌, length, vec_items}
+use Rattle.std.proofs.Common.{◌≡◌, ◌-◌, ◌<◌, ◌≤◌, vec_items}
 use Rattle.trace.specs.Layout.{body_end}
 use Rattle.trace.proofs.Sections.{Sofar}
 use Rattle.trace.proofs.reader.Reader.take_section.Given as goal
