@@ -1,5 +1,5 @@
 -- A roster that is new and then notes each event that no number refuses says what the record does. Assumes nothing.
-use Rattle.std.proofs.Common.{◌≡◌, ℕ, Bool, true, false, cond, not, ◌&&◌, ◌||◌, eqb, ltb, ◌⊎◌, List, [], ◌∷◌, length, Some, None, Option, sym, refl, ap, ◌∙◌, subst, inl, inr}
+use Rattle.std.proofs.Common.{◌≡◌, ℕ, Bool, true, false, cond, not, ◌&&◌, ◌||◌, eqb, ltb, List, [], ◌∷◌, length, Some, None, Option, sym, refl, ap, ◌∙◌, subst, inl, inr}
 use mathlib.Core.Path.{fun_ext}
 use Rattle.std.proofs.lemmas.Bool.{and_cases, or_parts, or_left, not-false, both_ways, lt-ltb}
 use Rattle.events.specs.declared.Event.{Event}
@@ -16,7 +16,7 @@ use Rattle.roster.specs.declared.roster.ThreadState.{ThreadState}
 use Rattle.roster.specs.declared.roster.ThreadState.TheVariants.{Unstarted, Running, Ended}
 use Rattle.roster.specs.Follows.{Fresh, Noted, Follows}
 use Rattle.roster.specs.Numbers.{numbered, refused}
-use Rattle.roster.specs.States.{has_begun, is_over, state_of, begun, over, holders}
+use Rattle.roster.specs.States.{has_begun, is_over, state_of}
 
 -- the code's rule is the record's
 pub rule_follows : (rec : List Event) (r : Roster) (e : Event) → Follows rec r → refused r (length rec) e ≡ fault rec e

@@ -1,5 +1,5 @@
 -- A table of locks that are all free, and a search for a lock that a thread holds. Assumes nothing.
-use Rattle.std.proofs.Common.{◌≡◌, ℕ, ◌+◌, ◌<◌, true, false, ltb, ◌⊎◌, replicate, None, Option, refl, ap, ◌∙◌, inl, inr, add-one}
+use Rattle.std.proofs.Common.{◌≡◌, ℕ, ◌+◌, ◌<◌, true, false, ltb, replicate, None, Option, refl, ap, ◌∙◌, inl, inr, add-one}
 use Rattle.std.proofs.lemmas.List.{get_or-replicate}
 use Rattle.std.proofs.lemmas.Bool.{cases_lt, cond-true, cond-false, lt-ltb, le-ltb, or_from}
 use Rattle.order.specs.Faults.{held_by}

@@ -1,5 +1,5 @@
 -- The steps of the search for a held lock.
-use Rattle.std.proofs.Common.{sym, refl, arith}
+use Rattle.std.proofs.Common.{sym, arith}
 use Rattle.roster.specs.States.{holder_of}
 use Rattle.roster.proofs.Tables.{holds_none, holds_more, holds_found}
 use Rattle.roster.proofs.locks.LockTable.holds_any.Goals as goal
