@@ -53,8 +53,8 @@ or_digits zero (suc (suc b)) p q = absurd (omega arith)
 or_digits (suc zero) (suc (suc b)) p q = absurd (omega arith)
 or_digits (suc (suc a)) b p q = absurd (omega arith)
 
-bit_or : (w v j : ℕ) → bit (bit_or w v) j ≡ (bit w j || bit v j)
-bit_or w v j =
+bit_joined : (w v j : ℕ) → bit (bit_or w v) j ≡ (bit w j || bit v j)
+bit_joined w v j =
     let e : bit_or w v / 2 ^ j % 2 ≡ bit_or (w / 2 ^ j % 2) (v / 2 ^ j % 2) = ap (λ n. n % 2) (or_shr w v j) ∙ or_mod (w / 2 ^ j) (v / 2 ^ j) 1 in
     ap (λ n. eqb n 1) e ∙ or_digits (w / 2 ^ j % 2) (v / 2 ^ j % 2) (omega arith) (omega arith)
 
@@ -95,7 +95,7 @@ row_placed ws v t h small within =
       | inl e ↦
           ap (λ n. bit (get_or (set ws (t / 64) (bit_or old digit)) n 0) (h % 64)) e
           ∙ ap (λ w. bit w (h % 64)) (get_or-set_same ws (t / 64) (bit_or old digit) 0 within)
-          ∙ bit_or old digit (h % 64)
+          ∙ bit_joined old digit (h % 64)
           ∙ ap₂ (λ x y. x || y)
           (ap (λ n. bit (get_or ws n 0) (h % 64)) (sym e))
           (ap (λ n. bit n (h % 64)) whole ∙ placed_bit v (t % 64) (h % 64) small ∙ ap (λ b. b && eqb v 1) (same_place h t e))

@@ -3,4 +3,4 @@ use Rattle.locksets.proofs.keeper.LocksetsKeeper.clear.Goals as goal
 
 pub returns : goal.returns
 returns c =
-    record { lives = tt; effect = means_cleared c.empty-all.new.self c.empty-all.ensures }
+    record { lives = tt; effect = means_cleared c.empty_all.new.self c.empty_all.ensures }
