@@ -1,7 +1,7 @@
 -- What an event in bounds does to a keeper's sets and to its count of passes. Assumes nothing.
 use Rattle.std.proofs.Common.{◌≡◌, ℕ, zero, suc, ◌+◌, ◌*◌, ◌<◌, ◌≤◌, Bool, true, false, cond, eqb, List, [], ◌∷◌, ◌++◌, sym, refl, ap, ◌∙◌, arith}
 use mathlib.Core.Path.{fun_ext}
-use Rattle.std.specs.List.{AllByRecursion as All}
+use Rattle.std.specs.List.{AllByRecursion}
 use Rattle.std.proofs.ByRecursion.{All-append}
 use Rattle.events.specs.declared.Event.{Event}
 use Rattle.events.specs.declared.Action.{Action}
@@ -46,7 +46,7 @@ counted (forget i) cs = omega arith
 counted (pass a b) cs = omega arith
 
 -- a list of calls, none of which is refused
-pub made_in_range : (cs : List Call) (m : Meaning) → All Fits cs → m.passes + passes_made cs ≤ 200000000 → ((made cs m).sets ≡ all_done cs m.sets) × ((made cs m).passes ≡ m.passes + passes_made cs)
+pub made_in_range : (cs : List Call) (m : Meaning) → AllByRecursion Fits cs → m.passes + passes_made cs ≤ 200000000 → ((made cs m).sets ≡ all_done cs m.sets) × ((made cs m).passes ≡ m.passes + passes_made cs)
 unfolding all_done
 made_in_range [] m fits few = (refl, omega arith)
 made_in_range (c ∷ cs) m fits few =
@@ -56,37 +56,37 @@ made_in_range (c ∷ cs) m fits few =
     (rest.0 ∙ ap (all_done cs) (sets_called c m fits.0 (omega arith)), rest.1 ∙ omega arith)
 
 -- the calls of an event in bounds are in range
-fits_in : (t : ℕ) (hs : List ℕ) → t < 8 → AllHolders hs → All Fits (passes_in t hs)
+fits_in : (t : ℕ) (hs : List ℕ) → t < 8 → AllHolders hs → AllByRecursion Fits (passes_in t hs)
 fits_in t [] l small = tt
 fits_in t (h ∷ hs) l small = ((small.0, omega arith), fits_in t hs l small.1)
 
-fits_out : (t : ℕ) (hs : List ℕ) → t < 8 → AllHolders hs → All Fits (passes_out t hs)
+fits_out : (t : ℕ) (hs : List ℕ) → t < 8 → AllHolders hs → AllByRecursion Fits (passes_out t hs)
 fits_out t [] l small = tt
 fits_out t (h ∷ hs) l small = ((omega arith, small.0), fits_out t hs l small.1)
 
-fits_forgetting : (n i : ℕ) → i + n ≤ 576 → All Fits (forget_from n i)
+fits_forgetting : (n i : ℕ) → i + n ≤ 576 → AllByRecursion Fits (forget_from n i)
 unfolding forget_from
 fits_forgetting zero i l = tt
 fits_forgetting (suc n) i l = (omega arith, fits_forgetting n (i + 1) (omega arith))
 
-fits_writing : (t p : ℕ) → t < 8 → p < 64 → All Fits (written t p)
+fits_writing : (t p : ℕ) → t < 8 → p < 64 → AllByRecursion Fits (written t p)
 fits_writing t p l place = ((omega arith, l), fits_forgetting 8 (9 * p + 1) (omega arith))
 
-fits_reading : (t p : ℕ) → t < 8 → p < 64 → All Fits (looked_at t p)
+fits_reading : (t p : ℕ) → t < 8 → p < 64 → AllByRecursion Fits (looked_at t p)
 fits_reading t p l place = ((omega arith, l), tt)
 
-fits_committing : (n t r w : ℕ) → n ≤ 64 → t < 8 → All Fits (committed n t r w)
+fits_committing : (n t r w : ℕ) → n ≤ 64 → t < 8 → AllByRecursion Fits (committed n t r w)
 unfolding committed
 fits_committing zero t r w l thread = tt
 fits_committing (suc n) t r w l thread =
     All-append Fits (committed n t r w) _ (fits_committing n t r w (omega arith) thread) (part (member w n) (member r n))
   where
-    part : (x y : Bool) → All Fits (cond x (written t n) (cond y (looked_at t n) []))
+    part : (x y : Bool) → AllByRecursion Fits (cond x (written t n) (cond y (looked_at t n) []))
     part true y = fits_writing t n thread (omega arith)
     part false true = fits_reading t n thread (omega arith)
     part false false = tt
 
-fits_accessing : (t : ℕ) (a : Action) → t < 8 → Ranged a → All Fits (accesses t a)
+fits_accessing : (t : ℕ) (a : Action) → t < 8 → Ranged a → AllByRecursion Fits (accesses t a)
 fits_accessing t (Read p) l r = fits_reading t p l r
 fits_accessing t (Write p) l r = fits_writing t p l r
 fits_accessing t (Acquire q) l r = tt
@@ -98,7 +98,7 @@ fits_accessing t (Join u) l r = tt
 fits_accessing t (Allocate o) l r = fits_forgetting 36 (36 * o) (omega arith)
 fits_accessing t (Commit x y) l r = fits_committing 64 t x.word y.word (omega arith) l
 
-fits_all : (e : Event) → InBounds e → All Fits (calls e)
+fits_all : (e : Event) → InBounds e → AllByRecursion Fits (calls e)
 unfolding calls
 fits_all e bounds =
     let t = e.thread in

@@ -4,7 +4,7 @@ use mathlib.Core.List.{map-append}
 use mathlib.Core.Path.{fun_ext}
 use lib.Bits.{bit_or, or_step, or_shr}
 use Rattle.std.proofs.lemmas.Bool.Decides.{nat_tests}
-use Rattle.std.specs.List.{AllByRecursion as All}
+use Rattle.std.specs.List.{AllByRecursion}
 use Rattle.std.proofs.ByRecursion.{All-append}
 use Rattle.events.specs.Places.{member}
 use Rattle.std.proofs.lemmas.Bool.{or_left, or_right, or_cases, eqb-true, false≢true}
@@ -29,18 +29,18 @@ unfolding places_below place_holders_below
 places_are_holders n r w = ap (λ (f : ℕ → Bool). map (λ p. 72 + p) (those_below n f)) (fun_ext (member_or r w))
 
 -- every holder of a place is below 136
-pub holders_small : (n r w : ℕ) → n ≤ 64 → All (λ h. h < 136) (place_holders_below n r w)
+pub holders_small : (n r w : ℕ) → n ≤ 64 → AllByRecursion (λ h. h < 136) (place_holders_below n r w)
 unfolding place_holders_below those_below
 holders_small zero r w l = tt
 holders_small (suc n) r w l =
     let f : ℕ → Bool = λ p. member r p || member w p in
     rw (map-append (λ p. 72 + p) (those_below n f) (cond (f n) (n ∷ []) [])) (All-append (λ h. h < 136) _ _ (holders_small n r w (omega arith)) (last (f n)))
   where
-    last : (b : Bool) → All (λ h. h < 136) (map (λ p. 72 + p) (cond b (n ∷ []) []))
+    last : (b : Bool) → AllByRecursion (λ h. h < 136) (map (λ p. 72 + p) (cond b (n ∷ []) []))
     last true = (omega arith, tt)
     last false = tt
 
-pub capped_same : (hs : List ℕ) → All (λ h. h < 136) hs → capped hs ≡ hs
+pub capped_same : (hs : List ℕ) → AllByRecursion (λ h. h < 136) hs → capped hs ≡ hs
 capped_same [] small = refl
 capped_same (h ∷ hs) small = let l = small.0 in let same : min h 255 ≡ h = omega arith in (λ d. same d ∷ capped_same hs small.1 d)
 

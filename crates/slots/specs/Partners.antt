@@ -4,7 +4,7 @@
 --   AllHolders hs      every one of hs is the number of a holder
 --   capped hs          hs with every number past a byte's end put down to 255, which is no holder either
 use Rattle.std.specs.Prelude.{ℕ, ◌+◌, ◌<◌, min, List, [], ◌∷◌, map}
-use Rattle.std.specs.List.{AllByRecursion as All}
+use Rattle.std.specs.List.{AllByRecursion}
 use Rattle.events.specs.Places.{member}
 use Rattle.order.specs.Slots.{those_below}
 use Rattle.slots.specs.declared.partners.Partners.{Partners}
@@ -22,4 +22,4 @@ abbrev pub capped : List ℕ → List ℕ
 capped hs = map (λ h. min h 255) hs
 
 abbrev pub AllHolders : List ℕ → Type 0
-AllHolders hs = All (λ h. h < 136) hs
+AllHolders hs = AllByRecursion (λ h. h < 136) hs
