@@ -3,7 +3,7 @@ use Rattle.std.proofs.Common.{◌≡◌, ℕ, ◌+◌, ◌<◌, ◌≤◌, Bool,
 use Rattle.std.proofs.lemmas.List.{append_assoc, append-nil, length-append, reverse-append}
 use Rattle.std.proofs.ByRecursion.{All-push}
 use Rattle.std.proofs.lemmas.Bool.{eqb-true, cond-false}
-use Rattle.std.specs.List.{AllByRecursion as All}
+use Rattle.std.specs.List.{AllByRecursion}
 use Rattle.events.specs.declared.Event.{Event}
 use Rattle.order.specs.Conflicts.{RaceFree}
 use Rattle.order.specs.Faults.{Lawful}
@@ -38,7 +38,7 @@ next_free rec e lawful free (refused k) h = free
 next_free rec e lawful free (declined p w) h = free
 
 -- a finding more is rightly listed
-listed_right : (Q : Finding → Type 0) (fs : List Finding) (n : ℕ) (rec : List Event) (e : Event) (a : Answer) → All Q fs → Right rec e a → ((p w : ℕ) → Right rec e (declined p w) → Q (record { event = n; place = p; witness = w })) → All Q (listed fs n a)
+listed_right : (Q : Finding → Type 0) (fs : List Finding) (n : ℕ) (rec : List Event) (e : Event) (a : Answer) → AllByRecursion Q fs → Right rec e a → ((p w : ℕ) → Right rec e (declined p w) → Q (record { event = n; place = p; witness = w })) → AllByRecursion Q (listed fs n a)
 listed_right Q fs n rec e (accepted s) all right found = all
 listed_right Q fs n rec e (refused k) all right found = all
 listed_right Q fs n rec e (declined p w) all right found = All-push Q fs _ all (found p w right)
@@ -48,7 +48,7 @@ record Known (bytes : List ℕ) (rec es : List Event) (Q : Finding → Type 0) (
   pub record_is : o.recorded_as ≡ recorded_all rec es
   pub lawful : Lawful o.recorded_as
   pub free : RaceFree o.recorded_as
-  pub races : All Q o.findings
+  pub races : AllByRecursion Q o.findings
   pub first : (f : Fault) → o.end ≡ Some f → EndsRightly bytes o f.cause
 
 ends_right : (bytes : List ℕ) (p : Place) (rec : List Event) (fs : List Finding) (o : Outcome) (e : Event) → o.place ≡ inside bytes p → o.recorded_as ≡ rec → o.findings ≡ fs → next bytes p ≡ Ok (Some e) → (a : Answer) → Right rec e a → (c : Cause) → Halts fs a c → EndsRightly bytes o c
@@ -65,13 +65,13 @@ stop_right bytes p rec fs o lawful free place same stay (Ok (Some e)) reads (c, 
     let is : f.cause ≡ c = cc in
     subst (EndsRightly bytes o) (sym is) (ends_right bytes p rec fs o e place same stay reads (judge rec e) (right_at rec e lawful free (judge rec e) refl) c halts)
 
-known : (bytes : List ℕ) (p : Place) (rec : List Event) (fs : List Finding) (es : List Event) (o : Outcome) (Q : Finding → Type 0) → Lawful rec → RaceFree rec → All Q fs → ((f : Finding) → NamesRace rec (inside bytes p).events es f → Q f) → Runs bytes p rec fs es o → Known bytes rec es Q o
+known : (bytes : List ℕ) (p : Place) (rec : List Event) (fs : List Finding) (es : List Event) (o : Outcome) (Q : Finding → Type 0) → Lawful rec → RaceFree rec → AllByRecursion Q fs → ((f : Finding) → NamesRace rec (inside bytes p).events es f → Q f) → Runs bytes p rec fs es o → Known bytes rec es Q o
 unfolding Runs recorded_all
 known bytes p rec fs [] o Q lawful free all found stops = record {
   record_is = stops.record_stays;
   lawful = subst Lawful (sym stops.record_stays) lawful;
   free = subst RaceFree (sym stops.record_stays) free;
-  races = subst (All Q) (sym stops.findings_stay) all;
+  races = subst (AllByRecursion Q) (sym stops.findings_stay) all;
   first = stop_right bytes p rec fs o lawful free stops.place_stays stops.record_stays stops.findings_stay (next bytes p) refl stops.ends;
 }
 known bytes p rec fs (e ∷ es) o Q lawful free all found (reads, passes, runs) =

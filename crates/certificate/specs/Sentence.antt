@@ -7,7 +7,7 @@
 --   Sentence bytes p rec es o   what is said of the run of the events es from the place p and the record on, with no findings at first,
 --                          which came to the outcome o
 use Rattle.std.specs.Prelude.{◌≡◌, ℕ, ◌+◌, ◌≤◌, List, [], ◌∷◌, ◌++◌, reverse, length, Some, None, Ok, Err, vec_items, Option, Result}
-use Rattle.std.specs.List.{AllByRecursion as All}
+use Rattle.std.specs.List.{AllByRecursion}
 use Rattle.events.specs.declared.Event.{Event}
 use Rattle.keepers.specs.Meaning.{Meaning}
 use Rattle.order.specs.Judgement.{declined, refused}
@@ -48,7 +48,7 @@ pub record Sentence (bytes : List ℕ) (p : Place) (rec : List Event) (es : List
   -- without a fault and without findings every event is accepted, in the file's order
   pub clean : o.end ≡ None → o.findings ≡ [] → o.recorded_as ≡ reverse es ++ rec
   -- each finding names a real race
-  pub races : All (NamesRace rec (inside bytes p).events es) o.findings
+  pub races : AllByRecursion (NamesRace rec (inside bytes p).events es) o.findings
   -- a refusal has the first number that applies
   pub first : (f : Fault) → o.end ≡ Some f → EndsRightly bytes o f.cause
 

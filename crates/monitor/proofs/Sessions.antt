@@ -11,7 +11,7 @@ use Rattle.order.proofs.Judgement.{right_at}
 use Rattle.order.proofs.Rearrangements.{own_order, same_reads}
 use Rattle.monitor.specs.declared.monitor.Monitor.{Monitor}
 use Rattle.std.proofs.ByRecursion.{All-weaker}
-use Rattle.std.specs.List.{AllByRecursion as All}
+use Rattle.std.specs.List.{AllByRecursion}
 use Rattle.monitor.specs.declared.session.Call.{Call}
 use Rattle.monitor.specs.declared.session.Call.TheVariants.{Offer}
 use Rattle.monitor.specs.declared.session.Reply.{Reply}
@@ -83,6 +83,6 @@ promise_answers rec (e ∷ es) (Counted n ∷ rs) p = absurd p.0
 promise_answers rec (e ∷ es) (Shown x ∷ rs) p = absurd p.0
 
 -- the worked examples, made by such calls, are answered as they say
-pub examples_answered : (cs : List Call) (rs : List Reply) → Promise [] cs rs → All (AnsweredAs cs rs) examples
+pub examples_answered : (cs : List Call) (rs : List Reply) → Promise [] cs rs → AllByRecursion (AnsweredAs cs rs) examples
 examples_answered cs rs p =
     All-weaker (λ x. answers [] x.events ≡ x.answers) (AnsweredAs cs rs) (λ x h same. promise_answers [] x.events rs (subst (λ l. Promise [] l rs) same p) ∙ h) examples as_worked

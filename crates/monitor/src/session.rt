@@ -1,7 +1,7 @@
 // A whole list of calls on a new monitor, answered one after another.
 ghost use Rattle.std.specs.Prelude.{◌≡◌, List, [], IfOk};
 ghost use Rattle.events.specs.declared.Event.{Event as AnEvent};
-ghost use Rattle.std.specs.List.{AllByRecursion as All};
+ghost use Rattle.std.specs.List.{AllByRecursion};
 ghost use Rattle.order.specs.Examples.{examples};
 ghost use Rattle.monitor.specs.Promise.{RightReply, after, record_after, Promise, AnsweredAs};
 ghost use Rattle.monitor.specs.Stands.{Stands};
@@ -90,7 +90,7 @@ pub fn answer_all<K: Keeper>(
 ) -> Result<Session<K>, K>
     ensures promise { IfOk result (λ s. Promise [] calls.items s.replies.items) }
     ensures stands { IfOk result (λ s. Stands K.live K.meaning (record_after [] calls.items s.replies.items) s.monitor) }
-    ensures examples { IfOk result (λ s. All (AnsweredAs calls.items s.replies.items) examples) }
+    ensures examples { IfOk result (λ s. AllByRecursion (AnsweredAs calls.items s.replies.items) examples) }
 {
     let mut replies = match Vec::with_capacity(heap, calls.len()) {
         Ok(replies) => replies,
