@@ -11,9 +11,9 @@ pub loop-init : goal.loop-init
 loop-init g c =
     (refl, λ rec stands. sofar_none g.K.Keeper.live g.K.Keeper.meaning c.args.reader.now.bytes.now c.args.reader.now.at rec c.args.run.now stands)
 
-pub returns-in-err-hand : goal.returns-in-err-hand
+pub returns-in_err-hand : goal.returns-in_err-hand
 unfolding RunOn
-returns-in-err-hand g c =
+returns-in_err-hand g c =
     let live = g.K.Keeper.live in
     let meaning = g.K.Keeper.meaning in
     let bs = c.args.reader.now.bytes.now in
@@ -22,10 +22,10 @@ returns-in-err-hand g c =
     let q' = c.hand.new.self.at in
     let s = c.loop.run in
     let t = c.hand.new.taker in
-    let y = c.in-err-hand.field-0.0 in
-    let p = err_from_is_err_and c.from-residual.result c.from-residual.ensures.1 in
+    let y = c.in_err-hand.field-0.0 in
+    let p = err_from_is_err_and c.from_residual.result c.from_residual.ensures.1 in
     let told = ap ended (p.1 ∙ ap Err p.2) in
-    let handed = subst (λ r. Handed (Took live meaning) Converts bs q s t q' r) c.in-err-hand.was (subst (λ b. Handed (Took live meaning) Converts b q s t q' c.hand.result) inv.0 c.hand.ensures.handed) in
+    let handed = subst (λ r. Handed (Took live meaning) Converts bs q s t q' r) c.in_err-hand.was (subst (λ b. Handed (Took live meaning) Converts b q s t q' c.hand.result) inv.0 c.hand.ensures.handed) in
     record {
       run = λ rec stands.
           let sofar = inv.1 rec stands in
@@ -43,7 +43,7 @@ loop-smaller g c =
     let q' = c.hand.new.self.at in
     let s = c.loop.run in
     let t = c.hand.new.taker in
-    let handed = subst (λ r. Handed (Took live meaning) Converts bs q s t q' r) (c.in-ok-hand.was ∙ ap Ok c.if-branch.true) (subst (λ b. Handed (Took live meaning) Converts b q s t q' c.hand.result) inv.0 c.hand.ensures.handed) in
+    let handed = subst (λ r. Handed (Took live meaning) Converts bs q s t q' r) (c.in_ok-hand.was ∙ ap Ok c.if-branch.true) (subst (λ b. Handed (Took live meaning) Converts b q s t q' c.hand.result) inv.0 c.hand.ensures.handed) in
     let step = went live meaning (site bs (inside bs q)) (inside bs q) (after bs q) s t q' (next bs q) handed in
     let on = ahead bs q step.0 step.1 in
     let byte = ap (λ p. p.byte) step.3 in
@@ -62,7 +62,7 @@ loop-preserved g c =
     let q' = c.hand.new.self.at in
     let s = c.loop.run in
     let t = c.hand.new.taker in
-    let handed = subst (λ r. Handed (Took live meaning) Converts bs q s t q' r) (c.in-ok-hand.was ∙ ap Ok c.if-branch.true) (subst (λ b. Handed (Took live meaning) Converts b q s t q' c.hand.result) inv.0 c.hand.ensures.handed) in
+    let handed = subst (λ r. Handed (Took live meaning) Converts bs q s t q' r) (c.in_ok-hand.was ∙ ap Ok c.if-branch.true) (subst (λ b. Handed (Took live meaning) Converts b q s t q' c.hand.result) inv.0 c.hand.ensures.handed) in
     let step = went live meaning (site bs (inside bs q)) (inside bs q) (after bs q) s t q' (next bs q) handed in
     (c.hand.ensures.bytes ∙ inv.0, λ rec stands. sofar_more live meaning (inv.1 rec stands) t q' step.0 step.1 step.2 step.3)
 
@@ -77,7 +77,7 @@ returns g c =
     let q' = c.hand.new.self.at in
     let s = c.loop.run in
     let t = c.hand.new.taker in
-    let handed = subst (λ r. Handed (Took live meaning) Converts bs q s t q' r) (c.in-ok-hand.was ∙ ap Ok c.if-branch.false) (subst (λ b. Handed (Took live meaning) Converts b q s t q' c.hand.result) inv.0 c.hand.ensures.handed) in
+    let handed = subst (λ r. Handed (Took live meaning) Converts bs q s t q' r) (c.in_ok-hand.was ∙ ap Ok c.if-branch.false) (subst (λ b. Handed (Took live meaning) Converts b q s t q' c.hand.result) inv.0 c.hand.ensures.handed) in
     record {
       run = λ rec stands.
           let sofar = inv.1 rec stands in

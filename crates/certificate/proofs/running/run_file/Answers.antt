@@ -6,15 +6,15 @@ use Rattle.certificate.proofs.running.run_file.Goals as goal
 pub returns : goal.returns
 unfolding RunOn
 returns g c =
-    let told = c.hand-all.ensures in
-    let t = c.hand-all.new.run in
-    let q = c.hand-all.new.reader.at in
+    let told = c.hand_all.ensures in
+    let t = c.hand_all.new.run in
+    let q = c.hand_all.new.reader.at in
     record {
       run = λ rec stands.
           let from = c.args.reader.now in
           let came = told.run rec stands in
-          let none = subst (λ fs. CameTo g.K.Keeper.live g.K.Keeper.meaning from.bytes.now from.at rec fs q t.monitor (vec_items t.findings.list) (ended c.hand-all.result)) c.in-Ok.ensures came in
-          let came' = subst (CameTo g.K.Keeper.live g.K.Keeper.meaning from.bytes.now from.at rec [] q t.monitor (vec_items t.findings.list)) (sym c.fault-of-end.ensures) none in
+          let none = subst (λ fs. CameTo g.K.Keeper.live g.K.Keeper.meaning from.bytes.now from.at rec fs q t.monitor (vec_items t.findings.list) (ended c.hand_all.result)) c.in-Ok.ensures came in
+          let came' = subst (CameTo g.K.Keeper.live g.K.Keeper.meaning from.bytes.now from.at rec [] q t.monitor (vec_items t.findings.list)) (sym c.fault_of-end.ensures) none in
           record { came = came'; says = sentence from.bytes.now from.at rec came'.events _ stands.lawful stands.free came'.runs };
       bytes = told.bytes;
     }
