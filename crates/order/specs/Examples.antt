@@ -3,7 +3,7 @@
 --   Example          events, oldest first, and the answers to them
 --   examples         the table
 use Rattle.std.specs.Prelude.{◌≡◌, ℕ, List, [], ◌∷◌}
-use Rattle.std.specs.List.{AllByRecursion as All}
+use Rattle.std.specs.List.{AllByRecursion}
 use Rattle.events.specs.declared.Event.{Event}
 use Rattle.events.specs.declared.Action.{Action}
 use Rattle.events.specs.declared.Action.TheVariants.{Read, Write, Acquire, Release, ReadFlag, WriteFlag, Fork, Join, Allocate, Commit}
@@ -58,4 +58,4 @@ examples =
 
 -- every run of the table is answered as it says
 abbrev pub AsWorked : Type 0
-AsWorked = All (λ x. answers [] x.events ≡ x.answers) examples
+AsWorked = AllByRecursion (λ x. answers [] x.events ≡ x.answers) examples
