@@ -8,7 +8,7 @@
 --   EventSite bytes p s      s is the site of the event at which a reader at p stands, in a file that opens
 --   EventFault bytes b end k   the event at byte b, in a body that ends at `end`, is refused for k by the first rule that applies
 --   EventRefusal bytes p f   f is the refusal of the event at which a reader at p stands
-use Rattle.std.specs.Prelude.{◌≡◌, ℕ, ◌+◌, ◌-◌, ◌*◌, ◌<◌, ◌≤◌, List, length, ◌≢◌, slice_index, slice_index_or}
+use Rattle.std.specs.Prelude.{◌≡◌, ℕ, ◌+◌, ◌-◌, ◌*◌, ◌<◌, ◌≤◌, List, length, ◌≢◌, slice_index}
 use Rattle.trace.specs.declared.fault.TraceFault.{TraceFault}
 use Rattle.trace.specs.declared.fault.TraceFault.TheVariants.{TooLong, Truncated, Edition, Contents, Kind, Overrun}
 use Rattle.trace.specs.declared.fault.Site.{Site}
@@ -61,7 +61,7 @@ pub record EventSite (bytes : List ℕ) (p : Place) (s : Site) : Type 0 where
 
 pub data EventFault (bytes : List ℕ) (b end : ℕ) (k : TraceFault) : Type 0 where
   no_such_kind : 10 ≤ slice_index bytes b → k ≡ Kind → EventFault bytes b end k
-  runs_over : slice_index_or bytes b 0 < 10 → end < b + size (slice_index bytes b) → k ≡ Overrun → EventFault bytes b end k
+  runs_over : slice_index bytes b < 10 → end < b + size (slice_index bytes b) → k ≡ Overrun → EventFault bytes b end k
 
 pub record EventRefusal (bytes : List ℕ) (p : Place) (f : Refusal) : Type 0 where
   pub site : EventSite bytes p f.at

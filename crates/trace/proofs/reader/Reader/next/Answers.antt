@@ -1,4 +1,4 @@
-use Rattle.std.proofs.Common.{Err, sym, ap, ◌∙◌}
+use Rattle.std.proofs.Common.{Err, sym, ap, ◌∙◌, arith}
 use Rattle.std.proofs.lemmas.Result.{err_from_is_err_and}
 use Rattle.trace.specs.Reading.{kept, moved}
 use Rattle.trace.proofs.Steps.{next_refused, next_faulty}
@@ -20,5 +20,5 @@ returns-in_err-take_event c =
     let took = c.take_event.ensures in
     let held = c.contents.new.self in
     let failed = c.in_err-take_event.was in
-    let next = next_faulty self.bytes.now held.bytes.now self.at held.at c.in_ok-contents.field-0 c.in_err-take_event.field-0.0 told.bytes told.place (sym told.answer ∙ c.in_ok-contents.was) c.if-self.true (sym took.answer ∙ failed) in
+    let next = next_faulty self.bytes.now held.bytes.now self.at held.at c.in_ok-contents.field-0 c.in_err-take_event.field-0.0 told.bytes told.place (sym told.answer ∙ c.in_ok-contents.was) (omega arith) (sym took.answer ∙ failed) in
     record { answer = p.1 ∙ ap Err p.2 ∙ sym next.0; place = took.place ∙ ap (λ r. kept r held.at (moved held.bytes.now held.at)) failed ∙ sym next.1; bytes = took.bytes ∙ told.bytes }
