@@ -1,5 +1,5 @@
 -- A run, event by event. Assumes nothing.
-use Rattle.std.proofs.Common.{◌≡◌, ℕ, ◌+◌, ◌<◌, ◌≤◌, Bool, true, false, cond, List, [], ◌∷◌, ◌++◌, length, Some, None, Ok, Err, vec_items, Option, Result, sym, refl, ap, ◌∙◌, subst, arith}
+use Rattle.std.proofs.Common.{◌≡◌, ℕ, true, false, List, [], ◌∷◌, ◌++◌, Some, None, Ok, Err, vec_items, Option, Result, sym, refl, ap, ◌∙◌, subst, arith}
 use Rattle.std.proofs.lemmas.List.{append_assoc}
 use Rattle.events.specs.declared.Event.{Event}
 use Rattle.keepers.specs.Meaning.{Meaning}
@@ -8,15 +8,14 @@ use Rattle.trace.specs.declared.fault.Refusal.{Refusal}
 use Rattle.trace.specs.declared.fault.Site.{Site}
 use Rattle.trace.specs.declared.place.Place.{Place}
 use Rattle.trace.specs.Reading.{site, inside, next, after}
-use Rattle.trace.specs.Handing.{HandedAs, Handed}
-use Rattle.monitor.specs.declared.monitor.Monitor.{Monitor}
+use Rattle.trace.specs.Handing.{HandedAs}
 use Rattle.monitor.specs.Stands.{Stands}
 use Rattle.certificate.specs.declared.fault.Cause.{Cause}
 use Rattle.certificate.specs.declared.fault.Cause.TheVariants.{Trace}
 use Rattle.certificate.specs.declared.fault.Fault.{Fault}
 use Rattle.certificate.specs.declared.finding.Finding.{Finding}
 use Rattle.certificate.specs.declared.run.Run.{Run}
-use Rattle.certificate.specs.Running.{listed, Passes, Halts, Outcome, StopsAs, Stops, Runs, PutAt, Took, CameTo, RunOn}
+use Rattle.certificate.specs.Running.{listed, Halts, Outcome, StopsAs, Runs, PutAt, Took, CameTo}
 
 -- a fault of the file, as the run has it
 abbrev pub Converts : Refusal → Fault → Type 0

@@ -1,8 +1,7 @@
 -- What the outcome of a run says of the file. Assumes nothing.
-use Rattle.std.proofs.Common.{◌≡◌, ℕ, ◌+◌, ◌<◌, ◌≤◌, Bool, true, false, cond, eqb, ltb, List, [], ◌∷◌, ◌++◌, reverse, length, get_or, Some, None, Ok, Err, Option, Result, sym, refl, ap, ◌∙◌, subst, arith}
-use Rattle.std.proofs.lemmas.List.{append_assoc, append-nil, length-append, reverse-append}
+use Rattle.std.proofs.Common.{◌≡◌, ℕ, ◌+◌, ◌≤◌, List, [], ◌∷◌, ◌++◌, reverse, length, Some, None, Ok, Err, Option, Result, sym, refl, ap, ◌∙◌, subst, arith}
+use Rattle.std.proofs.lemmas.List.{append_assoc, length-append, reverse-append}
 use Rattle.std.proofs.ByRecursion.{All-push}
-use Rattle.std.proofs.lemmas.Bool.{eqb-true, cond-false}
 use Rattle.std.specs.List.{AllByRecursion}
 use Rattle.events.specs.declared.Event.{Event}
 use Rattle.order.specs.Conflicts.{RaceFree}
@@ -11,18 +10,15 @@ use Rattle.order.specs.Judgement.{Answer, accepted, refused, declined, judge, re
 use Rattle.order.specs.Verdicts.{Right}
 use Rattle.order.proofs.Judgement.{right_at, accepted_free, accepted_lawful}
 use Rattle.order.proofs.Rearrangements.{own_order, same_reads}
-use Rattle.roster.specs.declared.fault.RuleFault.{RuleFault}
 use Rattle.roster.specs.Numbers.{fault_number}
 use Rattle.trace.specs.declared.fault.Refusal.{Refusal}
-use Rattle.trace.specs.declared.fault.Site.{Site}
 use Rattle.trace.specs.declared.place.Place.{Place}
 use Rattle.trace.specs.Reading.{site, inside, next, after}
-use Rattle.monitor.specs.Promise.{Sound}
 use Rattle.certificate.specs.declared.fault.Cause.{Cause}
-use Rattle.certificate.specs.declared.fault.Cause.TheVariants.{Trace, Monitor as ByMonitor, Run as ByRun}
+use Rattle.certificate.specs.declared.fault.Cause.TheVariants.{Trace}
 use Rattle.certificate.specs.declared.fault.Fault.{Fault}
 use Rattle.certificate.specs.declared.finding.Finding.{Finding}
-use Rattle.certificate.specs.Running.{recorded_all, listed, Passes, Halts, Outcome, StopsAs, Stops, Runs}
+use Rattle.certificate.specs.Running.{recorded_all, listed, Passes, Halts, Outcome, StopsAs, Runs}
 use Rattle.certificate.specs.Sentence.{NamesRace, EndsRightly, Sentence}
 use Rattle.certificate.proofs.Ahead.{counted}
 

@@ -2,7 +2,6 @@
 use Rattle.std.specs.Prelude.{ℕ}
 use Rattle.roster.specs.Numbers.{fault_number}
 use Rattle.trace.specs.Numbers.{number}
-use Rattle.certificate.specs.declared.fault.RunFault.{RunFault}
 use Rattle.certificate.specs.declared.fault.RunFault.TheVariants.{TooManyFindings}
 use Rattle.certificate.specs.declared.fault.Cause.{Cause}
 use Rattle.certificate.specs.declared.fault.Cause.TheVariants.{Trace, Monitor, Run}

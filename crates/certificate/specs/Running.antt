@@ -5,7 +5,7 @@
 --   Halts fs a c           an event so answered ends the run, for the cause c
 --   Runs bytes p rec fs es o   from the place p, the record and the findings on, the events es are read and pass, and then
 --                          the run comes to the outcome o
-use Rattle.std.specs.Prelude.{◌≡◌, ℕ, ◌+◌, ◌<◌, ◌≤◌, List, [], ◌∷◌, ◌++◌, length, Some, None, Ok, Err, vec_items, Option, Result}
+use Rattle.std.specs.Prelude.{◌≡◌, ℕ, ◌<◌, ◌≤◌, List, [], ◌∷◌, ◌++◌, length, Some, None, Ok, Err, vec_items, Option, Result}
 use Rattle.events.specs.declared.Event.{Event}
 use Rattle.keepers.specs.Meaning.{Meaning}
 use Rattle.order.specs.Judgement.{Answer, accepted, refused, declined, judge, recorded}
@@ -23,7 +23,6 @@ use Rattle.certificate.specs.declared.fault.Cause.{Cause}
 use Rattle.certificate.specs.declared.fault.Cause.TheVariants.{Trace, Monitor as ByMonitor, Run as ByRun}
 use Rattle.certificate.specs.declared.fault.Fault.{Fault}
 use Rattle.certificate.specs.declared.finding.Finding.{Finding}
-use Rattle.certificate.specs.declared.finding.Findings.{Findings}
 use Rattle.certificate.specs.declared.run.Run.{Run}
 use Rattle.certificate.specs.declared.running.Race.{Race}
 

@@ -1,26 +1,25 @@
 -- A monitor stands for the empty record at first, judges by what it holds, and stands for what it accepts. Assumes nothing.
-use Rattle.std.proofs.Common.{◌≡◌, ℕ, suc, ◌+◌, ◌*◌, ◌<◌, ◌≤◌, Bool, true, false, cond, ◌&&◌, ◌||◌, ltb, leb, List, [], ◌∷◌, length, Some, None, Ok, Option, Result, sym, refl, ap, ◌∙◌, subst, arith}
+use Rattle.std.proofs.Common.{◌≡◌, ℕ, ◌+◌, ◌*◌, ◌<◌, ◌≤◌, false, cond, ◌&&◌, ◌||◌, ltb, leb, List, [], ◌∷◌, length, Some, None, Ok, Option, Result, sym, ap, ◌∙◌, subst, arith}
 use mathlib.Core.Path.{fun_ext}
 use Rattle.std.proofs.lemmas.Bool.{leb-false, lt-ltb, lt-leb, and_from, or_from, cond-true, cond-false}
 use Rattle.events.specs.declared.Event.{Event}
 use Rattle.keepers.specs.Meaning.{Meaning, cleared}
 use Rattle.keepers.proofs.Laws.{sets_cleared, passes_cleared}
 use Rattle.order.specs.Cells.{Cell, cell_race, cell_verdict}
-use Rattle.order.specs.Conflicts.{RaceFree}
-use Rattle.order.specs.Faults.{fault, faults, applies, record_full, Lawful}
-use Rattle.order.specs.Judgement.{Answer, accepted, refused, declined, Finding, judge, ruled}
+use Rattle.order.specs.Faults.{fault, faults, record_full}
+use Rattle.order.specs.Judgement.{accepted, refused, declined, Finding, judge, ruled}
 use Rattle.order.specs.Questions as questions
 use Rattle.order.specs.Questions.{cell_told}
 use Rattle.order.proofs.Questions.{told_by_cell}
 use Rattle.order.specs.Slots.{Set, nobody, changed, worked}
 use Rattle.order.specs.Verdicts.{NoFault}
-use Rattle.order.specs.Work.{calls, passes_of, passes_by}
+use Rattle.order.specs.Work.{calls, passes_of}
 use Rattle.order.proofs.Cells.{judge_by_cells, cell_start, cell_step}
 use Rattle.order.proofs.Faults.{no_fault_iff}
 use Rattle.order.proofs.Judgement.{judge_refused, right_at, accepted_free, accepted_lawful, nothing_races}
 use Rattle.order.proofs.PassCounts.{passes_of_few, passes_by_few}
 use Rattle.roster.specs.declared.fault.RuleFault.{RuleFault}
-use Rattle.roster.specs.Follows.{Fresh, Noted, Follows}
+use Rattle.roster.specs.Follows.{Fresh, Noted}
 use Rattle.roster.specs.Numbers.{fault_number, numbered, refused as roster_refused}
 use Rattle.roster.proofs.Following.{rule_tells, follows_none, follows_note}
 use Rattle.slots.specs.declared.table.Told.{Told}

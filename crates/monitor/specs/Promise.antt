@@ -5,7 +5,7 @@
 --   Sound rec            what the certificate says of a record
 --   AnsweredAs cs rs x   the calls that a worked example lists are answered as it lists
 --   Promise rec cs rs    each reply is right, and after each call the record is sound
-use Rattle.std.specs.Prelude.{◌≡◌, ℕ, List, [], ◌∷◌, map, length}
+use Rattle.std.specs.Prelude.{◌≡◌, List, [], ◌∷◌, map, length}
 use Rattle.events.specs.declared.Event.{Event}
 use Rattle.order.specs.Conflicts.{RaceFree}
 use Rattle.order.specs.Examples.{Example}

@@ -4,7 +4,7 @@ use Rattle.std.proofs.lemmas.Bool.{cases_Bool, cond-true, cond-false, or_parts, 
 use Rattle.events.specs.declared.Event.{Event}
 use Rattle.order.specs.Acts.{is, operand, acquires, releases, forks, joins}
 use Rattle.order.specs.Records.{started, ended, running, lock_holder}
-use Rattle.order.specs.Faults.{held, held_by, not_running, joined_holds, faults, Lawful}
+use Rattle.order.specs.Faults.{held_by, not_running, joined_holds, faults, Lawful}
 use Rattle.order.specs.Verdicts.{NoFault}
 use Rattle.order.proofs.Options.{some_not_none, same_some}
 use Rattle.order.proofs.Searches.{some_below_from}

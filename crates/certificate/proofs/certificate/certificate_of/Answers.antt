@@ -1,5 +1,4 @@
-use Rattle.std.proofs.Common.{◌≡◌, [], vec_items, sym, ap, ◌∙◌, subst}
-use Rattle.trace.specs.Reading.{outside}
+use Rattle.std.proofs.Common.{[], vec_items, subst}
 use Rattle.certificate.specs.Sentence.{Certified}
 use Rattle.certificate.proofs.Agreeing.{certifies}
 use Rattle.certificate.proofs.certificate.certificate_of.Goals as goal

@@ -1,4 +1,4 @@
-use Rattle.std.proofs.Common.{◌≡◌, [], vec_items, sym, ap, subst}
+use Rattle.std.proofs.Common.{[], vec_items, sym, subst}
 use Rattle.certificate.specs.Running.{CameTo, RunOn, ended}
 use Rattle.certificate.proofs.Sentences.{sentence}
 use Rattle.certificate.proofs.running.run_file.Goals as goal

@@ -1,5 +1,4 @@
-use Rattle.std.proofs.Common.{◌≡◌, is_ok, string_bytes, sym, ap, ◌∙◌, arith}
-use Rattle.std.proofs.ResultArms.{chosen}
+use Rattle.std.proofs.Common.{string_bytes, ◌∙◌, arith}
 use Rattle.certificate.proofs.Lines.{lines_none, lines_more, lines_all}
 use Rattle.certificate.proofs.text.add_findings.Goals as goal
 

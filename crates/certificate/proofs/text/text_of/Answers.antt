@@ -1,4 +1,4 @@
-use Rattle.std.proofs.Common.{◌≡◌, ◌++◌, length, is_ok, vec_items, string_bytes, sym, ap, ◌∙◌, subst}
+use Rattle.std.proofs.Common.{◌++◌, length, is_ok, vec_items, string_bytes, ap, ◌∙◌}
 use Rattle.certificate.specs.Texts.{findings_text, last_text}
 use Rattle.certificate.proofs.Lines.{text_so}
 use Rattle.certificate.proofs.text.text_of.Goals as goal

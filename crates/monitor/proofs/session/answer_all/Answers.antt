@@ -1,4 +1,4 @@
-use Rattle.std.proofs.Common.{◌≡◌, deque_items, sym, ap, ◌∙◌, arith}
+use Rattle.std.proofs.Common.{deque_items, arith}
 use Rattle.std.proofs.lemmas.List.{nil_from_length}
 use Rattle.monitor.proofs.Sessions.{sofar_none, sofar_more, sofar_all, examples_answered}
 use Rattle.monitor.proofs.session.answer_all.Goals as goal
