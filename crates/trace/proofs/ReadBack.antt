@@ -4,7 +4,7 @@ use Rattle.std.proofs.ByRecursion.{All-take, All-drop}
 use Rattle.std.proofs.lemmas.List.{append_assoc, length-append, length-drop, take_at, drop_at, drop-drop, get_or-drop, nil_from_length}
 use Rattle.std.proofs.lemmas.List.Sums.{sum_by-cons}
 use Rattle.std.proofs.lemmas.Bool.{and_from, eq-eqb, le-leb, lt-leb, le-ltb, cond-true, cond-false, not_from_true}
-use Rattle.std.specs.List.{AllByRecursion as All}
+use Rattle.std.specs.List.{AllByRecursion}
 use Rattle.events.specs.declared.Event.{Event}
 use Rattle.events.specs.declared.Action.{Action}
 use Rattle.events.specs.declared.Action.TheVariants.{Read, Write, Acquire, Release, ReadFlag, WriteFlag, Fork, Join, Allocate, Commit}
@@ -135,7 +135,7 @@ table bs tail s (c ∷ counts) events short total full here =
 
 module _ (bs : List ℕ) (opens : Opened bs) where
   -- the events of section s are read where they stand
-  events_back : (es : List Event) (rest : List ℕ) (p : Place) (s : ℕ) (ts : List (ℕ × Event)) → All (λ e. Words e.action) es → drop p.byte bs ≡ body es ++ rest → 0 < s → s ≤ count bs → body_end bs (s - 1) ≤ p.byte → p.byte + length (body es) ≤ body_end bs s → ((q : Place) → q.byte ≡ p.byte + length (body es) → Reads bs q ts None) → Reads bs p (in_section s es ++ ts) None
+  events_back : (es : List Event) (rest : List ℕ) (p : Place) (s : ℕ) (ts : List (ℕ × Event)) → AllByRecursion (λ e. Words e.action) es → drop p.byte bs ≡ body es ++ rest → 0 < s → s ≤ count bs → body_end bs (s - 1) ≤ p.byte → p.byte + length (body es) ≤ body_end bs s → ((q : Place) → q.byte ≡ p.byte + length (body es) → Reads bs q ts None) → Reads bs p (in_section s es ++ ts) None
   events_back [] rest p s ts fits here some few low high on = on p (let none = ap length body_none in omega arith)
   events_back (e ∷ es) rest p s ts fits here some few low high on =
       let b = p.byte in
@@ -152,7 +152,7 @@ module _ (bs : List ℕ) (opens : Opened bs) where
       reads_more bs p s e (in_section s es ++ ts) None (omega arith) at took (events_back es rest (moved bs p) s ts fits.1 left some few (omega arith) (omega arith) (λ q h. on q (omega arith)))
 
   -- the sections from s + 1 on are read one behind the other
-  sections_back : (counts : List ℕ) (es : List Event) (p : Place) (s : ℕ) → All (λ e. Words e.action) es → sum counts ≡ length es → s + length counts ≡ count bs → Ends bs s counts es → p.byte ≡ body_end bs s → drop p.byte bs ≡ body es → Reads bs p (tagged (suc s) counts es) None
+  sections_back : (counts : List ℕ) (es : List Event) (p : Place) (s : ℕ) → AllByRecursion (λ e. Words e.action) es → sum counts ≡ length es → s + length counts ≡ count bs → Ends bs s counts es → p.byte ≡ body_end bs s → drop p.byte bs ≡ body es → Reads bs p (tagged (suc s) counts es) None
   unfolding tagged Ends
   sections_back [] es p s fits total many ends at here = reads_end bs p (omega arith)
   sections_back (c ∷ counts) es p s fits total many ends at here =
@@ -179,7 +179,7 @@ file_parts counts events =
     (refl, first, second, third)
 
 -- what was written reads back: a lawful file of at most 65,536 bytes
-pub reads_back : (counts : List ℕ) (events : List Event) → All (λ e. Words e.action) events → length counts ≤ 256 → sum counts ≡ length events → length (file counts events) ≤ 65536 → Contains (file counts events) counts events
+pub reads_back : (counts : List ℕ) (events : List Event) → AllByRecursion (λ e. Words e.action) events → length counts ≤ 256 → sum counts ≡ length events → length (file counts events) ≤ 65536 → Contains (file counts events) counts events
 reads_back counts events fits few total short =
     let bs = file counts events in
     let n = length counts in

@@ -4,7 +4,7 @@ use Rattle.std.proofs.ByRecursion.{All-append, All-map}
 use Rattle.std.proofs.lemmas.List.{map-append, length-append, length-drop, length-take-le, take-append-drop, drop-drop, drop_more, drop_all, nil_from_length}
 use Rattle.std.proofs.lemmas.List.Sums.{sum_by-cons}
 use Rattle.std.proofs.lemmas.Bool.{cases_eq, cases_lt, eq-eqb, ne_eqb, cond-true, cond-false, lt-leb, cond_both}
-use Rattle.std.specs.List.{AllByRecursion as All}
+use Rattle.std.specs.List.{AllByRecursion}
 use Rattle.events.specs.declared.Event.{Event}
 use Rattle.events.specs.declared.Action.TheVariants.{Commit}
 use Rattle.trace.specs.declared.place.Place.{Place}
@@ -108,13 +108,13 @@ section_few : (bs : List ℕ) → Opened bs → (b : ℕ) → body_end bs 0 ≤ 
 section_few bs opens b low high = let last = ended_lt bs (count bs) b low (omega (arith, opens.whole)) in omega arith
 
 -- sections are numbered upwards
-tags_after : (m s : ℕ) (counts : List ℕ) (es : List Event) → m < s → All (λ t. m < t.0) (tagged s counts es)
+tags_after : (m s : ℕ) (counts : List ℕ) (es : List Event) → m < s → AllByRecursion (λ t. m < t.0) (tagged s counts es)
 unfolding tagged
 tags_after m s [] es h = tt
 tags_after m s (c ∷ counts) es h =
     All-append (λ t. m < t.0) (in_section s (take c es)) (tagged (suc s) counts (drop c es)) (All-map (λ t. m < t.0) (λ e. (s, e)) (take c es) (each m s (take c es) h)) (tags_after m (suc s) counts (drop c es) (omega arith))
   where
-    each : (m s : ℕ) (es : List Event) → m < s → All (λ e. m < s) es
+    each : (m s : ℕ) (es : List Event) → m < s → AllByRecursion (λ e. m < s) es
     each m s [] h = tt
     each m s (e ∷ es) h = (h, each m s es h)
 
@@ -151,7 +151,7 @@ module _ (bs : List ℕ) (all : Bytes bs) (opens : Opened bs) where
       ∙ part_rest bs b (size k) (b + size k) refl
 
   -- the events of section s end where its body does
-  section_ends : (es : List Event) (ts : List (ℕ × Event)) (p : Place) (s : ℕ) → 0 < s → s ≤ count bs → body_end bs (s - 1) ≤ p.byte → p.byte ≤ body_end bs s → body_end bs 0 ≤ p.byte → All (λ t. s < t.0) ts → Reads bs p (in_section s es ++ ts) None → (q : Place) × (q.byte ≡ body_end bs s) × (q.byte ≡ p.byte + length (body es)) × Reads bs q ts None
+  section_ends : (es : List Event) (ts : List (ℕ × Event)) (p : Place) (s : ℕ) → 0 < s → s ≤ count bs → body_end bs (s - 1) ≤ p.byte → p.byte ≤ body_end bs s → body_end bs 0 ≤ p.byte → AllByRecursion (λ t. s < t.0) ts → Reads bs p (in_section s es ++ ts) None → (q : Place) × (q.byte ≡ body_end bs s) × (q.byte ≡ p.byte + length (body es)) × Reads bs q ts None
   unfolding Reads
   section_ends [] [] p s some few low high start later r =
       let end = within opens s few in

@@ -4,7 +4,7 @@
 --   word k bytes i   the number in the k bytes from i on
 --   Bytes bs         each element of bs is a byte
 use Rattle.std.specs.Prelude.{ℕ, zero, suc, ◌+◌, ◌*◌, ◌/◌, ◌%◌, ◌<◌, List, [], ◌∷◌, take, drop}
-use Rattle.std.specs.List.{AllByRecursion as All}
+use Rattle.std.specs.List.{AllByRecursion}
 
 unfoldable pub number : List ℕ → ℕ
 number [] = 0
@@ -18,4 +18,4 @@ abbrev pub word : ℕ → List ℕ → ℕ → ℕ
 word k bytes i = number (take k (drop i bytes))
 
 abbrev pub Bytes : List ℕ → Type 0
-Bytes bs = All (λ b. b < 256) bs
+Bytes bs = AllByRecursion (λ b. b < 256) bs

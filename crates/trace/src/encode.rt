@@ -1,6 +1,6 @@
 // Events, header and contents put into a buffer.
 ghost use Rattle.std.specs.Prelude.{◌≡◌, ◌+◌, ◌*◌, ◌^◌, ◌<◌, ◌≤◌, [], ◌∷◌, ◌++◌, length};
-ghost use Rattle.std.specs.List.{AllByRecursion as All};
+ghost use Rattle.std.specs.List.{AllByRecursion};
 ghost use Rattle.trace.specs.Words.{bytes_of};
 ghost use Rattle.trace.specs.Codec.{event_bytes, Words};
 ghost use Rattle.trace.specs.File.{body, laid};
@@ -75,7 +75,7 @@ pub(crate) fn put_event(out: &mut [u8], at: usize, event: Event) -> usize
 // The events, one after another from `at` on.
 pub(crate) fn put_events(out: &mut [u8], at: usize, events: &[Event])
     requires { at + length (body events.now) ≤ length out.old }
-    ensures words { All (λ e. Words e.action) events.now }
+    ensures words { AllByRecursion (λ e. Words e.action) events.now }
     ensures after { out.new ≡ laid out.old at (body events.now) }
 {
     let mut end = at;

@@ -1,7 +1,7 @@
 use Rattle.std.proofs.Common.{◌+◌, length, get_or, take, sym, ap, ◌∙◌, subst, arith}
 use Rattle.std.proofs.ByRecursion.{All-more}
 use Rattle.std.proofs.lemmas.List.{take_all}
-use Rattle.std.specs.List.{AllByRecursion as All}
+use Rattle.std.specs.List.{AllByRecursion}
 use Rattle.trace.specs.Codec.{event_bytes, Words}
 use Rattle.trace.specs.File.{body, laid}
 use Rattle.trace.proofs.Bodies.{blank, body_none, body_more, length_body_more, length_body_take}
@@ -39,6 +39,6 @@ pub returns : goal.returns
 returns c =
     let all = take_all c.loop-event.event-index c.args.events.now c.loop-event-test.false in
     record {
-      words = subst (λ l. All (λ x. Words x.action) l) all c.loop-event.invariant.2;
+      words = subst (λ l. AllByRecursion (λ x. Words x.action) l) all c.loop-event.invariant.2;
       after = c.loop-event.invariant.1 ∙ ap (λ l. laid c.args.out.now c.args.at (body l)) all;
     }
