@@ -6,7 +6,7 @@
 -- begun m s t      m after a begin: the set of slot s is just thread t
 -- forgotten m s    m after a forget: the set of slot s is empty
 -- passed m a b     m after a pass: every set that has holder a has holder b too, one pass more
--- NAME-answer      what the call NAME answers; a refused call leaves the meaning as it was
+-- NAME_answer      what the call NAME answers; a refused call leaves the meaning as it was
 --
 -- Slots are 0 to 575 and holders 0 to 135; holders 0 to 7 are the threads.
 use Rattle.std.specs.Prelude.{ℕ, ◌+◌, Bool, false, cond, ◌&&◌, ◌||◌, Ok, Err, Result, ◌==◌, nat_lt}
