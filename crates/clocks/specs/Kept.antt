@@ -10,7 +10,7 @@
 --   ahead             nobody has heard as much of a thread as the thread itself
 --   bounded           a count is at most one more than the passes, so none runs out before the limit
 --   past              a slot's access is one of a thread, and not in the thread's future
-use Rattle.std.specs.Prelude.{◌≡◌, ℕ, ◌+◌, ◌-◌, ◌^◌, ◌<◌, ◌≤◌, min, max, Bool, false, cond, ◌&&◌, [], length, set, replicate, Some, None, Option, Result, MatchResult, ◌==◌, ◌≢◌, nat_le, slice_index_or, slice_set}
+use Rattle.std.specs.Prelude.{◌≡◌, ℕ, ◌+◌, ◌-◌, ◌^◌, ◌<◌, ◌≤◌, min, max, Bool, false, cond, ◌&&◌, [], length, replicate, Some, None, Option, Result, MatchResult, ◌==◌, ◌≢◌, nat_le, slice_index_or, slice_set}
 use Rattle.keepers.specs.Fault.{Why}
 use Rattle.keepers.specs.Meaning.{Meaning, is_thread}
 use Rattle.keepers.specs.Tables.{table}

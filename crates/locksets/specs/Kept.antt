@@ -5,7 +5,7 @@
 -- no_sets            the keeper with empty sets and no pass
 -- Begins, Forgets, Passes, Asks    the answer r and the keeper k' that a function makes of k: what is
 --                    done in range, and that nothing else changes; why it is refused, and then k' is k
-use Rattle.std.specs.Prelude.{◌≡◌, ℕ, ◌+◌, ◌<◌, ◌≤◌, Bool, [], length, set, replicate, Result, MatchResult, slice_index_or, slice_set}
+use Rattle.std.specs.Prelude.{◌≡◌, ℕ, ◌+◌, ◌<◌, ◌≤◌, Bool, [], length, replicate, Result, MatchResult, slice_index_or, slice_set}
 use Rattle.keepers.specs.Fault.{Why}
 use Rattle.keepers.specs.Meaning.{Meaning}
 use Rattle.keepers.specs.Tables.{table}

@@ -7,7 +7,7 @@
 -- with_holder s h     s and holder h
 -- carried s a b       s, and holder b if holder a is in s
 -- Wide s h            s has a word for holder h, as every set has
-use Rattle.std.specs.Prelude.{ℕ, ◌*◌, ◌/◌, ◌%◌, ◌^◌, ◌<◌, Bool, List, [], ◌∷◌, length, set, ◌==◌, bit_and, bit_or, slice_index, slice_set}
+use Rattle.std.specs.Prelude.{ℕ, ◌*◌, ◌/◌, ◌%◌, ◌^◌, ◌<◌, Bool, List, [], ◌∷◌, length, ◌==◌, bit_and, bit_or, slice_index, slice_set}
 use Rattle.locksets.specs.declared.set.LockSet.{LockSet}
 
 abbrev pub bit_of : List ℕ → ℕ → ℕ
