@@ -10,7 +10,7 @@ use Rattle.std.specs.Prelude.{◌≡◌, ℕ, zero, suc, ◌+◌, Bool, true, fa
 use Rattle.events.specs.declared.Event.{Event}
 use Rattle.events.specs.declared.Action.{Action}
 use Rattle.events.specs.declared.Action.TheVariants.{Read, Write, Acquire, Release, ReadFlag, WriteFlag, Fork, Join, Allocate, Commit}
-use Rattle.events.specs.Places.{member}
+use Rattle.events.specs.Places.{member, those_below}
 use Rattle.order.specs.Acts.{allocates, writes_place}
 use Rattle.order.specs.Judgement.{latest_write, latest_read, reads_by}
 use Rattle.order.specs.Holders.{Holder, Reached, InRange, holder_number}
@@ -56,11 +56,6 @@ pass_in t (h ∷ hs) s = pass_in t hs (passed h t s)
 unfoldable pub pass_out : ℕ → List ℕ → Set → Set
 pass_out t [] s = s
 pass_out t (h ∷ hs) s = pass_out t hs (passed t h s)
-
--- the numbers below n that pass the test, ascending
-unfoldable pub those_below : ℕ → (ℕ → Bool) → List ℕ
-those_below zero f = []
-those_below (suc n) f = those_below n f ++ cond (f n) (n ∷ []) []
 
 -- the holders that stand for the places below n of two sets together
 unfoldable pub place_holders_below : ℕ → ℕ → ℕ → List ℕ
