@@ -5,15 +5,15 @@ ghost use Rattle.roster.specs.Numbers.{fault_number};
 // In the order in which they are asked: where several apply, the first is told.
 #[derive(Clone, Copy, PartialEq, Eq, Debug)]
 pub enum RuleFault {
-    NoSuchThread,
-    NoSuchThing,
-    NotRunning,
-    ForkedBefore,
-    JoinsAmiss,
-    LockHeld,
-    LockNotHeld,
-    JoinedHolds,
-    RecordFull,
+    NoSuchThread = 1,
+    NoSuchThing = 2,
+    NotRunning = 3,
+    ForkedBefore = 4,
+    JoinsAmiss = 5,
+    LockHeld = 6,
+    LockNotHeld = 7,
+    JoinedHolds = 8,
+    RecordFull = 9,
 }
 
 impl RuleFault {
@@ -21,16 +21,6 @@ impl RuleFault {
     pub fn number(self) -> u8
         ensures { result ≡ fault_number self }
     {
-        match self {
-            RuleFault::NoSuchThread => 1,
-            RuleFault::NoSuchThing => 2,
-            RuleFault::NotRunning => 3,
-            RuleFault::ForkedBefore => 4,
-            RuleFault::JoinsAmiss => 5,
-            RuleFault::LockHeld => 6,
-            RuleFault::LockNotHeld => 7,
-            RuleFault::JoinedHolds => 8,
-            RuleFault::RecordFull => 9,
-        }
+        self as u8
     }
 }
