@@ -32,7 +32,7 @@ impl<K: Keeper> Monitor<K> {
     fn check(&self, event: Event) -> Verdict
         ensures { (rec : List AnEvent) → Stands K.live K.meaning rec self.now → told result ≡ judge rec event }
     {
-        if let Some(fault) = self.roster.rule(self.accepted, event) {
+        if let Err(fault) = self.roster.rule(self.accepted, event) {
             return Verdict::Refused { fault };
         }
         match self.slots.race(event) {

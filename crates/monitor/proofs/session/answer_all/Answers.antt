@@ -12,7 +12,7 @@ pub loop-call-preserved : goal.loop-call-preserved
 loop-call-preserved g c =
     let popped = c.in-Some.ensures in
     let pushed = c.push_reserved.ensures in
-    (sofar_more c.loop-call.invariant.0 _ _ c.answer.new.monitor c.in-Some.call c.answer.result popped.items pushed.items c.answer.ensures, omega (arith, popped.len, pushed.len, pushed.capacity, c.loop-call.invariant.1))
+    (sofar_more c.loop-call.invariant.0 c.pop_front.new.self.items c.push_reserved.new.self.items c.answer.new.monitor c.in-Some.call c.answer.result popped.items pushed.items c.answer.ensures, omega (arith, popped.len, pushed.len, pushed.capacity, c.loop-call.invariant.1))
 
 pub returns-clause-examples : goal.returns-clause-examples
 returns-clause-examples g c =

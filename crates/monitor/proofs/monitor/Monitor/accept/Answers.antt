@@ -6,4 +6,4 @@ pub returns-clause-stands : goal.returns-clause-stands
 returns-clause-stands g c rec stands took =
     let work = c.work.ensures in
     let done = work.keeper stands.lives in
-    stands_more g.K.Keeper.live g.K.Keeper.meaning rec c.args.self.now stands c.args.event _ c.args.serial took refl c.note.ensures done.0 done.1 work.serials
+    stands_more stands c.args.event _ c.args.serial took refl c.note.ensures done.0 done.1 work.serials
