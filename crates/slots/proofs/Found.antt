@@ -4,7 +4,12 @@ use Rattle.std.specs.Bool.{then_some}
 use Rattle.std.specs.List.{range_with_len}
 use Rattle.std.proofs.lemmas.Option.{none-some}
 use Rattle.events.specs.Places.{member, those_below}
+use Rattle.keepers.specs.Meaning.{Meaning}
+use Rattle.slots.specs.Bounds.{InBounds}
+use Rattle.slots.specs.Made.{set_at, held_at}
 use Rattle.slots.specs.Serials.{some_serial}
+use Rattle.slots.proofs.Places.{held_in_range, some_in_range}
+use Rattle.slots.proofs.Ranges.{in_range, thread_in_range, taken_holders}
 use Rattle.slots.proofs.Finding.{first_some}
 use Rattle.std.proofs.lemmas.Bool.{cases_eq, cond-true, cond-false, or_left, or_right, or_from, ne_eqb, false≢true}
 use Rattle.events.specs.declared.Event.{Event}
@@ -18,7 +23,7 @@ use Rattle.order.specs.Judgement.{Finding, found}
 use Rattle.order.specs.Searches.{first_from, or_else}
 use Rattle.order.specs.Slots.{Set, taken}
 use Rattle.order.proofs.Options.{some_not_none}
-use Rattle.order.proofs.Searches.{first_from_cases}
+use Rattle.order.proofs.Searches.{first_from_cases, first_from_same}
 
 -- whether an access has arrived
 pub arrived_own : (e : Event) (s : Set) → s e.thread ≡ true → arrived e s ≡ true
@@ -140,6 +145,25 @@ module _ (e : Event) (n : ℕ → ℕ → ℕ) (s : ℕ → ℕ → Set) where
         | inl f ↦ absurd (some_not_none (race_of f.2.at) f.0 f.2.is (untouched f.2.at (others f.2.at)))
         | inr f ↦ f.0
       ]
+
+-- an event in bounds asks for nobody out of range, so that the slots' own sets decide
+module _ (e : Event) (bounds : InBounds e) (n : ℕ → ℕ → ℕ) (m : Meaning) where
+  pending_in_range : (p k : ℕ) → p < 64 → k < 9 → pending e (n p k) (held_at m p k) ≡ pending e (n p k) (set_at m p k)
+  unfolding pending arrived
+  pending_in_range p k place slot =
+      let own = held_in_range m (9 * p + k) e.thread (omega arith) (let l = thread_in_range e bounds in omega arith) in
+      let taking = some_in_range m (9 * p + k) (taken e.action) (omega arith) (taken_holders e.action (in_range e bounds)) in
+      ap (λ b. cond (eqb (n p k) 0 || b) None (Some (n p k))) (ap₂ (λ a b. a || b) own taking)
+
+  witness_in_range : (p : ℕ) → p < 64 → cell_witness e p (n p) (held_at m p) ≡ cell_witness e p (n p) (set_at m p)
+  unfolding cell_witness cell_read
+  witness_in_range p place =
+      let reads = first_from_same _ _ 8 0 (λ t _ l. pending_in_range p (t + 1) place (omega arith)) in
+      ap₂ (λ a b. cond (touches e p) (or_else a (cond (writes_place e p) b None)) None) (pending_in_range p 0 place (omega arith)) reads
+
+  pub race_in_range : cell_race e n (held_at m) ≡ cell_race e n (set_at m)
+  unfolding cell_race
+  race_in_range = first_from_same _ _ 64 0 (λ p _ l. ap (found p) (witness_in_range p (omega arith)))
 
 -- which places an event touches
 abbrev event : ℕ → Action → Event

@@ -1,11 +1,8 @@
 -- The serials after a write, read in range. Assumes nothing.
-use Rattle.std.proofs.Common.{◌≡◌, ℕ, ◌<◌, cond, ◌&&◌, eqb, List, length, get_or, set, replicate, Some, sym, ap, ◌∙◌, inl, inr, arith}
+use Rattle.std.proofs.Common.{◌≡◌, ℕ, ◌<◌, cond, ◌&&◌, eqb, List, length, get_or, set, replicate, sym, ap, ◌∙◌, inl, inr, arith}
 use Rattle.std.proofs.lemmas.List.{get_or-set_same, get_or-set_other, get_or-replicate}
 use Rattle.std.proofs.lemmas.Bool.{cases_eq, cases_lt, lt-ltb, le-ltb, eq-eqb, ne_eqb, cond-true, cond-false, and_from, and_right}
-use Rattle.std.proofs.lemmas.Option.{none-some}
 use Rattle.keepers.specs.Meaning.{is_slot}
-use Rattle.slots.specs.declared.serials.Serials.{Serials}
-use Rattle.slots.specs.Serials.{number_at, some_serial}
 
 -- a row of numbers, read in range
 abbrev pub number_in : List ℕ → ℕ → ℕ
@@ -27,12 +24,4 @@ pub in_none : (s : ℕ) → number_in (replicate 576 0) s ≡ 0
 in_none s = elim (cases_lt s 576) [
   | inl l ↦ cond-true (is_slot s) _ 0 (lt-ltb s 576 l) ∙ get_or-replicate 576 s 0 0 l
   | inr l ↦ cond-false (is_slot s) _ 0 (le-ltb s 576 l)
-]
-
--- a slot that has a serial is in range
-pub serial_in_range : (t : Serials) (s n : ℕ) → some_serial (number_at t s) ≡ Some n → s < 576
-unfolding number_at
-serial_in_range t s n some = elim (cases_lt s 576) [
-  | inl l ↦ l
-  | inr l ↦ absurd (none-some n (ap some_serial (sym (cond-false (is_slot s) (get_or t.numbers s 0) 0 (le-ltb s 576 l))) ∙ some))
 ]

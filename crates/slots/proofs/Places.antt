@@ -1,11 +1,11 @@
 -- The holders of the places of a set. Assumes nothing.
-use Rattle.std.proofs.Common.{◌≡◌, ℕ, zero, suc, ◌+◌, ◌/◌, ◌%◌, ◌^◌, ◌<◌, ◌≤◌, min, max, Bool, true, false, cond, ◌&&◌, ◌||◌, eqb, ltb, List, [], ◌∷◌, map, refl, ap, ◌∙◌, subst, arith}
+use Rattle.std.proofs.Common.{◌≡◌, ℕ, zero, suc, ◌+◌, ◌/◌, ◌%◌, ◌^◌, ◌<◌, ◌≤◌, min, max, Bool, true, false, cond, ◌&&◌, ◌||◌, eqb, ltb, List, [], ◌∷◌, map, refl, sym, ap, ◌∙◌, inl, inr, subst, arith}
 use mathlib.Core.Path.{fun_ext}
 use lib.Bits.{bit_or, or_step, or_shr}
 use Rattle.std.proofs.lemmas.Bool.Decides.{nat_tests}
 use Rattle.std.specs.List.{AllByRecursion, list_any}
 use Rattle.std.proofs.ByRecursion.{All-append}
-use Rattle.std.proofs.lemmas.Bool.{lt-ltb, and_from}
+use Rattle.std.proofs.lemmas.Bool.{cases_lt, lt-ltb, le-ltb, and_from, and_left, and_right}
 use Rattle.events.specs.Places.{member, those_below}
 use Rattle.keepers.specs.Meaning.{Meaning, is_slot, is_holder}
 use Rattle.order.specs.Slots.{place_holders_below, place_holders}
@@ -58,6 +58,21 @@ capped_same (h ∷ hs) small = let l = small.0 in let same : min h 255 ≡ h = o
 pub held_in_range : (m : Meaning) (slot h : ℕ) → slot < 576 → h < 136 → held m slot h ≡ m.sets slot h
 held_in_range m slot h l k = ap (λ b. b && m.sets slot h) (and_from (is_slot slot) (is_holder h) (lt-ltb slot 576 l) (lt-ltb h 136 k))
 
-pub some_held : (m : Meaning) (slot : ℕ) (hs : List ℕ) → slot < 576 → AllHolders hs → list_any (held m slot) hs ≡ some_in hs (m.sets slot)
-some_held m slot [] l small = refl
-some_held m slot (h ∷ hs) l small = (λ d. held_in_range m slot h l small.0 d || some_held m slot hs l small.1 d)
+-- and a number past a byte's end is no holder, whichever it is
+capped_held : (m : Meaning) (slot h : ℕ) → held m slot (min h 255) ≡ held m slot h
+capped_held m slot h = elim (cases_lt h 136) [
+  | inl l ↦ let same : min h 255 ≡ h = omega arith in ap (held m slot) same
+  | inr l ↦ nobody (min h 255) (omega arith) ∙ sym (nobody h l)
+]
+  where
+    nobody : (i : ℕ) → 136 ≤ i → held m slot i ≡ false
+    nobody i l = and_left _ (m.sets slot i) (and_right (is_slot slot) (is_holder i) (le-ltb i 136 l))
+
+pub some_held : (m : Meaning) (slot : ℕ) (hs : List ℕ) → list_any (held m slot) (capped hs) ≡ some_in hs (held m slot)
+some_held m slot [] = refl
+some_held m slot (h ∷ hs) = (λ d. capped_held m slot h d || some_held m slot hs d)
+
+-- so it is the slot's own set of which an event in bounds asks
+pub some_in_range : (m : Meaning) (slot : ℕ) (hs : List ℕ) → slot < 576 → AllHolders hs → some_in hs (held m slot) ≡ some_in hs (m.sets slot)
+some_in_range m slot [] l small = refl
+some_in_range m slot (h ∷ hs) l small = (λ d. held_in_range m slot h l small.0 d || some_in_range m slot hs l small.1 d)

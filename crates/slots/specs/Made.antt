@@ -5,7 +5,8 @@
 --   passes_in t hs, passes_out t hs   a pass from each of hs to t, or to each of hs from t
 --   set_at m p k  the set of slot k of place p
 --   held m s h    holder h is in the set of slot s, and neither is out of range
-use Rattle.std.specs.Prelude.{◌≡◌, ℕ, ◌+◌, ◌*◌, Bool, ◌&&◌, List, [], ◌∷◌, map}
+--   held_at m p k  that set of slot k of place p
+use Rattle.std.specs.Prelude.{◌≡◌, ℕ, ◌+◌, ◌*◌, ◌&&◌, List, [], ◌∷◌, map}
 use Rattle.keepers.specs.Meaning.{Meaning, is_slot, is_holder, begun, forgotten, passed}
 use Rattle.order.specs.Slots.{Set}
 use Rattle.order.specs.Work.{Call, begin, forget, pass}
@@ -25,8 +26,11 @@ Made live meaning cs k k' = live k → live k' × (meaning k' ≡ made cs (meani
 abbrev pub set_at : Meaning → ℕ → ℕ → Set
 set_at m p k = m.sets (9 * p + k)
 
-abbrev pub held : Meaning → ℕ → ℕ → Bool
+abbrev pub held : Meaning → ℕ → Set
 held m s h = is_slot s && is_holder h && m.sets s h
+
+abbrev pub held_at : Meaning → ℕ → ℕ → Set
+held_at m p k = held m (9 * p + k)
 
 abbrev pub passes_in : ℕ → List ℕ → List Call
 passes_in t hs = map (λ h. pass h t) hs

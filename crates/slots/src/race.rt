@@ -1,5 +1,5 @@
 // The search for a race: the lowest place at which an event meets an access that has not reached it.
-ghost use Rattle.std.specs.Prelude.{◌≡◌, ℕ, ◌<◌, false};
+ghost use Rattle.std.specs.Prelude.{◌≡◌, ℕ, false};
 ghost use Rattle.events.specs.Places.{member};
 ghost use Rattle.order.specs.Acts.{touches};
 ghost use Rattle.order.specs.Cells.{arrived, cell_read, cell_witness, cell_race};
@@ -7,7 +7,7 @@ ghost use Rattle.order.specs.Cells.{pending as pending_in};
 ghost use Rattle.order.specs.Judgement.{found};
 ghost use Rattle.order.specs.Searches.{or_else};
 ghost use Rattle.slots.specs.Bounds.{InBounds};
-ghost use Rattle.slots.specs.Made.{set_at};
+ghost use Rattle.slots.specs.Made.{set_at, held, held_at};
 ghost use Rattle.slots.specs.Serials.{number_at, serial_at};
 ghost use Rattle.slots.specs.Told.{found_as};
 
@@ -39,8 +39,7 @@ impl<K: Keeper> Slots<K> {
     }
 }
 
-// The search for what an event races with. It may be begun for any event, and finds what the
-// theory says of one in bounds.
+// The search for what an event races with.
 #[derive_where(Clone, Copy)]
 struct Search<'a, K: Keeper> {
     slots: &'a Slots<K>,
@@ -50,14 +49,14 @@ struct Search<'a, K: Keeper> {
 impl<K: Keeper> Search<'_, K> {
     // The race at the lowest of the places that has one, where the event touches no other.
     fn lowest_race(&self, places: PlaceSet) -> Option<Racing>
-        ensures { InBounds self.now.event → ((p : ℕ) → member places.word p ≡ false → touches self.now.event p ≡ false) → found_as result ≡ cell_race self.now.event (serial_at self.now.slots.now.serials) (set_at (K.meaning self.now.slots.now.keeper)) }
+        ensures { ((p : ℕ) → member places.word p ≡ false → touches self.now.event p ≡ false) → found_as result ≡ cell_race self.now.event (serial_at self.now.slots.now.serials) (held_at (K.meaning self.now.slots.now.keeper)) }
     {
         places.iter().find_map(|place| self.race_at(place))
     }
 
     // The race at the place.
     fn race_at(&self, place: u8) -> Option<Racing>
-        ensures { InBounds self.now.event → found_as result ≡ found place (cell_witness self.now.event place (serial_at self.now.slots.now.serials place) (set_at (K.meaning self.now.slots.now.keeper) place)) }
+        ensures { found_as result ≡ found place (cell_witness self.now.event place (serial_at self.now.slots.now.serials place) (held_at (K.meaning self.now.slots.now.keeper) place)) }
     {
         let witness = self.witness(place)?;
         Some(Racing { place, witness })
@@ -65,7 +64,7 @@ impl<K: Keeper> Search<'_, K> {
 
     // The serial of what the event races with at the place. A place that it does not access has none.
     fn witness(&self, place: u8) -> Option<u32>
-        ensures { InBounds self.now.event → result ≡ cell_witness self.now.event place (serial_at self.now.slots.now.serials place) (set_at (K.meaning self.now.slots.now.keeper) place) }
+        ensures { result ≡ cell_witness self.now.event place (serial_at self.now.slots.now.serials place) (held_at (K.meaning self.now.slots.now.keeper) place) }
     {
         if writes_place(self.event, place) {
             self.pending_any(place)
@@ -79,7 +78,7 @@ impl<K: Keeper> Search<'_, K> {
     // What a write races with: the place's write, if that has not reached the event, otherwise the
     // read by the lowest thread that has not. The slots are in that order.
     fn pending_any(&self, place: u8) -> Option<u32>
-        ensures { InBounds self.now.event → result ≡ or_else (pending_in self.now.event (serial_at self.now.slots.now.serials place 0) (set_at (K.meaning self.now.slots.now.keeper) place 0)) (cell_read self.now.event (serial_at self.now.slots.now.serials place) (set_at (K.meaning self.now.slots.now.keeper) place)) }
+        ensures { result ≡ or_else (pending_in self.now.event (serial_at self.now.slots.now.serials place 0) (held_at (K.meaning self.now.slots.now.keeper) place 0)) (cell_read self.now.event (serial_at self.now.slots.now.serials place) (held_at (K.meaning self.now.slots.now.keeper) place)) }
     {
         let first = 9 * place as usize;
         (first..first + 9).find_map(|slot| self.pending(slot))
@@ -87,7 +86,7 @@ impl<K: Keeper> Search<'_, K> {
 
     // The serial of the slot's access, unless there is none or it has reached the event.
     fn pending(&self, slot: usize) -> Option<u32>
-        ensures { InBounds self.now.event → result ≡ pending_in self.now.event (number_at self.now.slots.now.serials slot) ((K.meaning self.now.slots.now.keeper).sets slot) }
+        ensures { result ≡ pending_in self.now.event (number_at self.now.slots.now.serials slot) (held (K.meaning self.now.slots.now.keeper) slot) }
     {
         let serial = self.slots.serials.at(slot)?;
         (!self.reached(slot)).then_some(serial)
@@ -95,7 +94,7 @@ impl<K: Keeper> Search<'_, K> {
 
     // Whether the thread of the event, or one from whom the event takes, is in the slot's set.
     fn reached(&self, slot: usize) -> bool
-        ensures { slot < 576 → InBounds self.now.event → result ≡ arrived self.now.event ((K.meaning self.now.slots.now.keeper).sets slot) }
+        ensures { result ≡ arrived self.now.event (held (K.meaning self.now.slots.now.keeper) slot) }
     {
         self.slots.holds(slot, self.event.thread)
             || Holders::takes_from(self.event.action).any(|holder| self.slots.holds(slot, holder))

@@ -3,7 +3,7 @@ use Rattle.std.proofs.lemmas.Iterator.Consumers.{YieldsList-from_first}
 use Rattle.events.specs.Places.{member, those_below, places_left}
 use Rattle.order.specs.Cells.{cell_witness}
 use Rattle.order.specs.Judgement.{found}
-use Rattle.slots.specs.Made.{set_at}
+use Rattle.slots.specs.Made.{held_at}
 use Rattle.slots.specs.Serials.{serial_at}
 use Rattle.slots.specs.Told.{found_as}
 use Rattle.slots.proofs.Finding.{found_first}
@@ -11,10 +11,10 @@ use Rattle.slots.proofs.Found.{race_among}
 use Rattle.slots.proofs.race.Search.lowest_race.Goals as goal
 
 pub returns : goal.returns
-returns g c bounds others =
+returns g c others =
     let e = c.args.self.now.event in
     let ns = serial_at c.args.self.now.slots.now.serials in
-    let sets = set_at (g.K.Keeper.meaning c.args.self.now.slots.now.keeper) in
+    let sets = held_at (g.K.Keeper.meaning c.args.self.now.slots.now.keeper) in
     let at = λ (p : ℕ). found p (cell_witness e p (ns p) (sets p)) in
     let places = those_below 64 (member c.args.places.word) in
     let left = ap (λ s. those_below 64 (member s.word)) c.iter.ensures in
