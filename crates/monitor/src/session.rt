@@ -72,7 +72,8 @@ impl Call {
     }
 }
 
-// Lets all calls go. A call has no `Drop`, since a slip has none, so the queue is emptied call by call.
+// Lets all calls go. A call has no `Drop`, since a slip has none, so the queue is emptied call by call. Nothing comes out
+// that a clause could speak of.
 pub fn abandon_all(mut calls: VecDeque<Call>) {
     while let Some(call) = calls.pop_front() {
         call.abandon();
