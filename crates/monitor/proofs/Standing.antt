@@ -1,5 +1,5 @@
 -- A monitor stands for the empty record at first, judges by what it holds, and stands for what it accepts. Assumes nothing.
-use Rattle.std.proofs.Common.{◌≡◌, ℕ, ◌+◌, ◌*◌, ◌<◌, ◌≤◌, false, cond, ◌&&◌, ◌||◌, ltb, leb, List, [], ◌∷◌, length, None, Ok, Err, Option, Result, sym, ap, ◌∙◌, subst, arith}
+use Rattle.std.proofs.Common.{◌≡◌, ℕ, ◌+◌, ◌*◌, ◌<◌, ◌≤◌, false, cond, ◌&&◌, ◌||◌, ltb, leb, List, [], ◌∷◌, length, Some, None, Ok, Err, Option, Result, sym, ap, ◌∙◌, subst, arith}
 use mathlib.Core.Path.{fun_ext}
 use Rattle.std.proofs.lemmas.Bool.{leb-false, lt-ltb, lt-leb, and_from, or_from, cond-true, cond-false}
 use Rattle.events.specs.declared.Event.{Event}
@@ -7,12 +7,12 @@ use Rattle.keepers.specs.declared.keeper.Keeper.{Ghosts}
 use Rattle.keepers.specs.Meaning.{cleared}
 use Rattle.keepers.proofs.Laws.{sets_cleared, passes_cleared}
 use Rattle.order.specs.Cells.{Cell, cell_race, cell_verdict}
-use Rattle.order.specs.Faults.{faults, record_full}
-use Rattle.order.specs.Judgement.{accepted, refused, Finding, judge, ruled}
+use Rattle.order.specs.Faults.{fault, faults, record_full}
+use Rattle.order.specs.Judgement.{accepted, refused, declined, Finding, judge, ruled}
 use Rattle.order.specs.Questions as questions
 use Rattle.order.specs.Questions.{cell_told}
 use Rattle.order.proofs.Questions.{told_by_cell}
-use Rattle.order.specs.Slots.{Set, nobody, changed, worked}
+use Rattle.order.specs.Slots.{nobody, changed, worked}
 use Rattle.order.specs.Verdicts.{NoFault}
 use Rattle.order.specs.Work.{calls, passes_of}
 use Rattle.order.proofs.Cells.{judge_by_cells, cell_start, cell_step}
@@ -35,10 +35,6 @@ use Rattle.monitor.specs.declared.verdict.Access.{Access}
 use Rattle.monitor.specs.Answers.{slot_of, no_reader, asked}
 use Rattle.monitor.specs.Stands.{Stands}
 
--- what a set is at each holder, it is as a whole
-same_set : (s s' : Set) → ((h : ℕ) → s h ≡ s' h) → s ≡ s'
-same_set s s' e = fun_ext e
-
 -- a monitor over a cleared keeper, with a new roster and no serials
 pub stands_none : {K : Type 0} {its : Ghosts K} (m : Monitor K its) → m.accepted ≡ 0 → Fresh m.roster → its.live m.slots.keeper → its.meaning m.slots.keeper ≡ cleared → ((p k : ℕ) → serial_at m.slots.serials p k ≡ 0) → Stands [] m
 stands_none {its = its} m none fresh lives clear zeros = record {
@@ -49,7 +45,7 @@ stands_none {its = its} m none fresh lives clear zeros = record {
   passes = ap (λ x. x.passes) clear ∙ passes_cleared;
   spare = let none = ap (λ x. x.passes) clear ∙ passes_cleared in omega arith;
   cells = λ p k _ _.
-      let set : set_at (its.meaning m.slots.keeper) p k ≡ nobody = same_set _ _ (λ h. ap (λ x. x.sets (9 * p + k) h) clear ∙ sets_cleared (9 * p + k) h) in
+      let set : set_at (its.meaning m.slots.keeper) p k ≡ nobody = fun_ext (λ h. ap (λ x. x.sets (9 * p + k) h) clear ∙ sets_cleared (9 * p + k) h) in
       subst (λ s. Cell [] p k (serial_at m.slots.serials p k) s) (sym set) (subst (λ n. Cell [] p k n nobody) (sym (zeros p k)) (cell_start p k));
   lawful = tt;
   free = nothing_races;
@@ -61,18 +57,32 @@ unfolding faults record_full
 not_full rec e none = leb-false 1000000 (length rec) (none 9)
 
 module _ {K : Type 0} {its : Ghosts K} {rec : List Event} {m : Monitor K its} (stands : Stands rec m) (e : Event) where
+  by_cells : fault rec e ≡ None → judge rec e ≡ cell_verdict (length rec) (cell_race e (serial_at m.slots.serials) (set_at (its.meaning m.slots.keeper)))
+  by_cells none =
+      judge_by_cells rec e stands.free (serial_at m.slots.serials) (set_at (its.meaning m.slots.keeper)) stands.cells
+      ∙ ap (λ o. ruled o (cell_verdict (length rec) (cell_race e (serial_at m.slots.serials) (set_at (its.meaning m.slots.keeper))))) none
+
+  -- no race is found by the cells, or one is
+  pub judged_free : fault rec e ≡ None → cell_race e (serial_at m.slots.serials) (set_at (its.meaning m.slots.keeper)) ≡ None → judge rec e ≡ accepted (length rec + 1)
+  judged_free none free = by_cells none ∙ ap (cell_verdict (length rec)) free
+
+  pub judged_racing : (f : Finding) → fault rec e ≡ None → cell_race e (serial_at m.slots.serials) (set_at (its.meaning m.slots.keeper)) ≡ Some f → judge rec e ≡ declined f.place f.witness
+  judged_racing f none found = by_cells none ∙ ap (cell_verdict (length rec)) found
+
   -- the refusal that the roster tells is the judgement's
   pub judged_refused : (f : RuleFault) → numbered (Err f) ≡ roster_refused m.roster m.accepted e → judge rec e ≡ refused (fault_number f)
   judged_refused f h = judge_refused rec e (fault_number f) (sym (rule_tells rec m.roster m.accepted e (Err f) stands.roster stands.counts h))
 
-  -- where it tells none, the judgement's answer is by the race that the cells have, or that they have none
-  pub judged_by_cells : numbered (Ok tt) ≡ roster_refused m.roster m.accepted e → (o : Option Finding) → (InBounds e → o ≡ cell_race e (serial_at m.slots.serials) (set_at (its.meaning m.slots.keeper))) → judge rec e ≡ cell_verdict (length rec) o
-  judged_by_cells h o race =
-      let none = sym (rule_tells rec m.roster m.accepted e (Ok tt) stands.roster stands.counts h) in
-      let bounds = in_bounds rec e ((no_fault_iff rec e).0 none) in
-      judge_by_cells rec e stands.free (serial_at m.slots.serials) (set_at (its.meaning m.slots.keeper)) stands.cells
-      ∙ ap (λ o. ruled o (cell_verdict (length rec) (cell_race e (serial_at m.slots.serials) (set_at (its.meaning m.slots.keeper))))) none
-      ∙ ap (cell_verdict (length rec)) (sym (race bounds))
+  -- where it tells none, the answer is by the race that is found, or that none is
+  no_fault : numbered (Ok tt) ≡ roster_refused m.roster m.accepted e → fault rec e ≡ None
+  no_fault h = sym (rule_tells rec m.roster m.accepted e (Ok tt) stands.roster stands.counts h)
+
+  bounded : fault rec e ≡ None → InBounds e
+  bounded none = in_bounds rec e ((no_fault_iff rec e).0 none)
+
+  pub judged_by_race : numbered (Ok tt) ≡ roster_refused m.roster m.accepted e → (o : Option Finding) → (InBounds e → o ≡ cell_race e (serial_at m.slots.serials) (set_at (its.meaning m.slots.keeper))) → judge rec e ≡ cell_verdict (length rec) o
+  judged_by_race h None race = let none = no_fault h in judged_free none (sym (race (bounded none)))
+  judged_by_race h (Some f) race = let none = no_fault h in judged_racing f none (sym (race (bounded none)))
 
   -- what accepting the event makes of the monitor stands for the longer record
   pub stands_more : (m' : Monitor K its) (serial : ℕ) → judge rec e ≡ accepted serial → m'.accepted ≡ serial → Noted m.roster e m'.roster → its.live m'.slots.keeper → its.meaning m'.slots.keeper ≡ made (calls e) (its.meaning m.slots.keeper) → Numbered m.slots.serials m'.slots.serials (λ p k n. changed e p k serial 0 n) → Stands (e ∷ rec) m'
