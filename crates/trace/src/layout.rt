@@ -5,11 +5,14 @@ ghost use Rattle.trace.specs.Layout.{entry_length, body_end, good_entry, at_star
 use crate::fault::{Refusal, Site, TraceFault};
 use crate::words::{word16, word32};
 
-const LONGEST: usize = 65_536;
+/// The most bytes that a trace file may have.
+pub const LONGEST: usize = 65_536;
 
-const EDITION: u16 = 1;
+/// The edition of the format that is read and written.
+pub(crate) const EDITION: u16 = 1;
 
-const MOST_SECTIONS: u16 = 256;
+/// The most sections that a trace file may have.
+pub(crate) const MOST_SECTIONS: usize = 256;
 
 // A refusal before the first event.
 fn early(fault: TraceFault, byte: usize) -> Refusal
@@ -39,11 +42,10 @@ pub(crate) fn check_header(bytes: &[u8]) -> Result<usize, Refusal>
     if word16(bytes, 0) != EDITION {
         return Err(early(TraceFault::Edition, 0));
     }
-    let sections = word16(bytes, 2);
+    let sections = usize::from(word16(bytes, 2));
     if sections > MOST_SECTIONS {
         return Err(early(TraceFault::Contents, 2));
     }
-    let sections = usize::from(sections);
     if len < 4 + 8 * sections {
         return Err(early(TraceFault::Truncated, len));
     }
