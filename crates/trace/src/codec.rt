@@ -6,7 +6,7 @@ ghost use Rattle.trace.specs.Kinds.{code};
 use crate::fault::TraceFault;
 use crate::kind::Kind;
 use crate::place::Place;
-use crate::words::word64;
+use crate::words::chunk;
 use events::{Action, Event, PlaceSet};
 
 // The set whose eight bytes begin at `at`.
@@ -15,7 +15,7 @@ fn read_set(bytes: &[u8], at: usize) -> PlaceSet
     ensures { result ≡ set_at bytes.now at }
 {
     PlaceSet {
-        word: word64(bytes, at),
+        word: u64::from_le_bytes(chunk(bytes, at)),
     }
 }
 
