@@ -4,6 +4,7 @@ pub mod Kinds
 pub mod Codec
 pub mod Layout
 pub mod Reading
+pub mod Texts
 pub mod Refusals
 pub mod Handing
 pub mod File

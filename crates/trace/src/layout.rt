@@ -1,5 +1,6 @@
 // Header and contents of a file: the checks that come before the first event.
-ghost use Rattle.std.specs.Prelude.{◌≡◌, ◌+◌, ◌*◌, ◌<◌, ◌≤◌, true, false, length, Some, None, MatchOption, MatchResult};
+ghost use Rattle.std.specs.Prelude.{◌≡◌, ◌+◌, ◌*◌, ◌<◌, ◌≤◌, true, false, length, Some, None, MatchResult};
+ghost use Rattle.trace.specs.declared.fault.TraceFault.TheVariants.{Contents};
 ghost use Rattle.trace.specs.Words.{word};
 ghost use Rattle.trace.specs.Layout.{count, entry_offset, entry_length, body_end, good_entry, at_start, opening, Header};
 
@@ -97,16 +98,16 @@ impl Entry {
 }
 
 // Where the body of entry i ends, if the entry is right; `end` is where the part before it ended.
-fn entry_end(bytes: &[u8], i: usize, end: usize) -> Option<usize>
+fn entry_end(bytes: &[u8], i: usize, end: usize) -> Result<usize, Refusal>
     requires i_in_bounds { 12 + 8 * i ≤ length bytes.now }
     requires end_value { end ≡ body_end bytes.now i }
-    ensures { MatchOption result (good_entry bytes.now i ≡ false) (λ e. (good_entry bytes.now i ≡ true) × (e ≡ end + entry_length bytes.now i) × (e ≤ length bytes.now)) }
+    ensures { MatchResult result (λ e. (good_entry bytes.now i ≡ true) × (e ≡ end + entry_length bytes.now i) × (e ≤ length bytes.now)) (λ f. (good_entry bytes.now i ≡ false) × (Some f ≡ at_start Contents (4 + 8 * i))) }
 {
     let entry = Entry::read(bytes, i);
     if entry.offset as usize == end && entry.end() <= bytes.len() {
-        Some(entry.end())
+        Ok(entry.end())
     } else {
-        None
+        Err(early(TraceFault::Contents, 4 + 8 * i))
     }
 }
 
@@ -117,10 +118,7 @@ pub(crate) fn check_entries(bytes: &[u8], sections: usize) -> Result<(), Refusal
 {
     let mut end = 4 + 8 * sections;
     for i in 0..sections {
-        let Some(next) = entry_end(bytes, i, end) else {
-            return Err(early(TraceFault::Contents, 4 + 8 * i));
-        };
-        end = next;
+        end = entry_end(bytes, i, end)?;
     }
     if end < bytes.len() {
         return Err(early(TraceFault::Contents, end));

@@ -1,6 +1,7 @@
 // A whole file read into its events and sections.
-ghost use Rattle.std.specs.Prelude.{◌≡◌, ℕ, ◌+◌, ◌-◌, ◌<◌, ◌≤◌, List, ◌++◌};
+ghost use Rattle.std.specs.Prelude.{◌≡◌, ℕ, ◌+◌, ◌-◌, ◌<◌, ◌≤◌, List, ◌++◌, Some};
 ghost use Rattle.trace.specs.Layout.{count, body_end};
+ghost use Rattle.trace.specs.Texts.{error_text};
 ghost use Rattle.trace.specs.Whole.{Pushed, SectionRead, WholeRead};
 ghost use Rattle.trace.specs.declared.whole.ReadError.TheVariants.{Refused, Memory};
 
@@ -9,6 +10,8 @@ use crate::handing::Taker;
 use crate::reader::Reader;
 use events::Event;
 use std::alloc::{AllocError, Global};
+use std::error::Error;
+use std::fmt;
 
 // Events, and how many of them each section has.
 #[derive(Drop)]
@@ -47,6 +50,19 @@ impl<T: Drop> From<std::alloc::AllocFailed<T>> for ReadError {
         ReadError::Memory
     }
 }
+
+impl fmt::Display for ReadError {
+    ghost output = { λ e. Some (error_text e) };
+
+    fn fmt<W: fmt::Write>(&self, f: &mut fmt::Formatter<W>) -> fmt::Result {
+        match self {
+            ReadError::Refused(refusal) => write!(f, "{refusal}"),
+            ReadError::Memory => write!(f, "no memory"),
+        }
+    }
+}
+
+impl Error for ReadError {}
 
 // Keeps each event.
 impl Taker<ReadError> for Vec<Event> {
