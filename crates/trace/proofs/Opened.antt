@@ -122,7 +122,7 @@ section_is bytes s b some few low high =
     let all' = subst (λ n. ended bytes n b ≡ m) f all in
     omega arith
 
-none_from : {A : Type 0} (o : Option A) → is_some o ≡ false → o ≡ None
+pub none_from : {A : Type 0} (o : Option A) → is_some o ≡ false → o ≡ None
 none_from None e = refl
 none_from (Some x) e = absurd (true≢false e)
 

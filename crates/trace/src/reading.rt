@@ -1,7 +1,8 @@
 // Opening a file and reading its events, one after another.
-ghost use Rattle.std.specs.Prelude.{◌≡◌, ◌+◌, ◌-◌, ◌<◌, ◌≤◌, length, Some, None, MatchResult};
+ghost use Rattle.std.specs.Prelude.{◌≡◌, ◌+◌, ◌-◌, ◌<◌, ◌≤◌, ◌⊎◌, length, Some, None, MatchResult, IfErr};
 ghost use Rattle.trace.specs.Layout.{count, body_end, opening, section_at};
 ghost use Rattle.trace.specs.Reading.{origin, outside, sections_or, inside, next, after};
+ghost use Rattle.trace.specs.Refusals.{FirstRefusal, EventRefusal, Opens};
 
 use crate::fault::Refusal;
 use crate::layout::{Entry, check_entries, check_header, section_count};
@@ -48,6 +49,7 @@ impl<'a> Reader<'a> {
     // A reader of a file that opens then stands inside it.
     pub fn contents(&mut self) -> Result<usize, Refusal>
         ensures answer { result ≡ sections_or self.old.bytes.now (opening self.old.bytes.now) }
+        ensures rule { MatchResult result (λ _. Opens self.old.bytes.now) (λ f. FirstRefusal self.old.bytes.now f) }
         ensures place { self.new.at ≡ inside self.old.bytes.now self.old.at }
         ensures bytes { self.new.bytes.now ≡ self.old.bytes.now }
     {
@@ -84,6 +86,7 @@ impl<'a> Reader<'a> {
     // The next event, if there is one. Only an event that is taken moves a reader inside the file.
     pub fn next(&mut self) -> Result<Option<Event>, Refusal>
         ensures answer { result ≡ next self.old.bytes.now self.old.at }
+        ensures rule { IfErr result (λ f. FirstRefusal self.old.bytes.now f ⊎ EventRefusal self.old.bytes.now (inside self.old.bytes.now self.old.at) f) }
         ensures place { self.new.at ≡ after self.old.bytes.now self.old.at }
         ensures bytes { self.new.bytes.now ≡ self.old.bytes.now }
     {

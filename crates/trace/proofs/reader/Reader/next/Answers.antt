@@ -1,5 +1,6 @@
 use Rattle.std.proofs.Common.{Err, sym, ap, ◌∙◌}
 use Rattle.std.proofs.lemmas.Result.{err_from_is_err_and}
+use Rattle.trace.proofs.Answered.{next_rule}
 use Rattle.trace.proofs.HandedOn.{next_place, next_ok, next_err}
 use Rattle.trace.proofs.reader.Reader.next.Goals as goal
 
@@ -8,8 +9,10 @@ returns-in_err-hand c =
     let p = err_from_is_err_and c.from_residual.result c.from_residual.ensures.1 in
     let self = c.args.self.now in
     let handed = c.in_err-hand.ensures.handed in
+    let answer = p.1 ∙ ap Err p.2 ∙ sym (next_err self.bytes.now self.at c.hand.new.self.at c.hand.new.taker _ handed) in
     record {
-      answer = p.1 ∙ ap Err p.2 ∙ sym (next_err self.bytes.now self.at c.hand.new.self.at c.hand.new.taker _ handed);
+      answer = answer;
+      rule = next_rule self.bytes.now self.at c.from_residual.result self.stands answer;
       place = next_place self.bytes.now self.at c.hand.new.self.at c.hand.new.taker _ handed;
       bytes = c.hand.ensures.bytes;
     }
@@ -20,6 +23,7 @@ returns c =
     let handed = c.in_ok-hand.ensures.handed in
     record {
       answer = sym (next_ok self.bytes.now self.at c.hand.new.self.at c.hand.new.taker _ handed);
+      rule = tt;
       place = next_place self.bytes.now self.at c.hand.new.self.at c.hand.new.taker _ handed;
       bytes = c.hand.ensures.bytes;
     }
