@@ -1,5 +1,6 @@
 -- The tests kind by kind are those that refuse an event by number. Assumes nothing.
 use Rattle.std.proofs.Common.{◌≡◌, ℕ, Bool, true, false, cond, not, ◌||◌, leb, Some, None, Option, sym, refl, ap, ◌∙◌}
+use Rattle.std.proofs.Math.Bool.{or-false}
 use Rattle.events.specs.declared.Event.{Event}
 use Rattle.events.specs.declared.Action.{Action}
 use Rattle.events.specs.declared.Action.TheVariants.{Read, Write, Acquire, Release, ReadFlag, WriteFlag, Fork, Join, Allocate, Commit}
@@ -13,10 +14,6 @@ use Rattle.roster.specs.Checks.{strange_thread, strange_thing, range_number, chi
 use Rattle.roster.specs.Numbers.{refused}
 use Rattle.roster.specs.States.{holds_some, has_begun, is_over, state_of, begun, over, holders}
 
-or_false : (b : Bool) → b ≡ (b || false)
-or_false true = refl
-or_false false = refl
-
 cond_not : {X : Type 0} (b : Bool) (x y : X) → cond b x y ≡ cond (not b) y x
 cond_not true x y = refl
 cond_not false x y = refl
@@ -28,27 +25,23 @@ thread_is : (t : ℕ) (a : Action) → strange_thread t a ≡ no_such_thread (do
 unfolding no_such_thread
 thread_is t (Fork u) = refl
 thread_is t (Join u) = refl
-thread_is t (Read p) = or_false (leb 8 t)
-thread_is t (Write p) = or_false (leb 8 t)
-thread_is t (Acquire l) = or_false (leb 8 t)
-thread_is t (Release l) = or_false (leb 8 t)
-thread_is t (ReadFlag f) = or_false (leb 8 t)
-thread_is t (WriteFlag f) = or_false (leb 8 t)
-thread_is t (Allocate o) = or_false (leb 8 t)
-thread_is t (Commit r w) = or_false (leb 8 t)
-
-or_false_twice : (b : Bool) → b ≡ (b || false || false)
-or_false_twice true = refl
-or_false_twice false = refl
+thread_is t (Read p) = sym (or-false (leb 8 t))
+thread_is t (Write p) = sym (or-false (leb 8 t))
+thread_is t (Acquire l) = sym (or-false (leb 8 t))
+thread_is t (Release l) = sym (or-false (leb 8 t))
+thread_is t (ReadFlag f) = sym (or-false (leb 8 t))
+thread_is t (WriteFlag f) = sym (or-false (leb 8 t))
+thread_is t (Allocate o) = sym (or-false (leb 8 t))
+thread_is t (Commit r w) = sym (or-false (leb 8 t))
 
 thing_is : (t : ℕ) (a : Action) → strange_thing a ≡ no_such_thing (does_it t a)
 unfolding no_such_thing
-thing_is t (Read p) = or_false_twice (leb 64 p)
-thing_is t (Write p) = or_false_twice (leb 64 p)
-thing_is t (Acquire l) = or_false (leb 32 l)
-thing_is t (Release l) = or_false (leb 32 l)
-thing_is t (ReadFlag f) = or_false (leb 32 f)
-thing_is t (WriteFlag f) = or_false (leb 32 f)
+thing_is t (Read p) = sym (or-false (leb 64 p || false) ∙ or-false (leb 64 p))
+thing_is t (Write p) = sym (or-false (leb 64 p || false) ∙ or-false (leb 64 p))
+thing_is t (Acquire l) = sym (or-false (leb 32 l))
+thing_is t (Release l) = sym (or-false (leb 32 l))
+thing_is t (ReadFlag f) = sym (or-false (leb 32 f))
+thing_is t (WriteFlag f) = sym (or-false (leb 32 f))
 thing_is t (Allocate o) = refl
 thing_is t (Fork u) = refl
 thing_is t (Join u) = refl
@@ -112,3 +105,7 @@ first_is_refused r n e =
     let locks = lock_is (holders r) t a in
     let parts : first_number r n t a ≡ or_else (cond (no_such_thread e) (Some 1) (cond (no_such_thing e) (Some 2) None)) (or_else (cond (not_running (begun r) (over r) e) (Some 3) (cond (forked_before (begun r) e) (Some 4) (cond (joins_amiss (begun r) e) (Some 5) None))) (or_else (cond (lock_held (holders r) e) (Some 6) (cond (lock_not_held (holders r) e) (Some 7) (cond (joined_holds (holders r) e) (Some 8) None))) (count_number n))) = λ i. or_else (range i) (or_else (states i) (or_else (locks i) (count_number n))) in
     parts ∙ chain (no_such_thread e) (no_such_thing e) (not_running (begun r) (over r) e) (forked_before (begun r) e) (joins_amiss (begun r) e) (lock_held (holders r) e) (lock_not_held (holders r) e) (joined_holds (holders r) e) (count_number n) ∙ sym (rule_is (begun r) (over r) (holders r) n e)
+
+-- so what the four groups of tests answer, one after another, is too
+pub told : (r : Roster) (n : ℕ) (e : Event) (ranges states locks count : Option ℕ) → ranges ≡ range_number e.thread e.action → states ≡ state_number (state_of r e.thread) (begun r) e.thread e.action → locks ≡ lock_number (holders r) e.thread e.action → count ≡ count_number n → or_else ranges (or_else states (or_else locks count)) ≡ refused r n e
+told r n e ranges states locks count f g h k = (λ i. or_else (f i) (or_else (g i) (or_else (h i) (k i)))) ∙ first_is_refused r n e
