@@ -1,14 +1,11 @@
 -- What is known of a file that opens: where its bodies end, and which section holds a byte. Assumes nothing.
-use Rattle.std.proofs.Common.{◌≡◌, ℕ, zero, suc, ◌+◌, ◌-◌, ◌*◌, ◌<◌, ◌≤◌, Bool, true, false, cond, eqb, leb, List, length, is_some, is_ok, Some, None, Ok, Err, Option, Result, sym, refl, ap, ◌∙◌, subst, ⊎_elim, add-one, arith}
+use Rattle.std.proofs.Common.{◌≡◌, ℕ, zero, suc, ◌+◌, ◌-◌, ◌*◌, ◌<◌, ◌≤◌, Bool, true, false, cond, eqb, leb, List, length, is_some, Some, None, Option, sym, refl, ap, ◌∙◌, subst, ⊎_elim, add-one, arith}
 use Rattle.std.proofs.lemmas.Bool.{cond_both, true≢false, and_parts, not-false, eqb-true, leb-true, ltb-false, le-leb, lt-leb, cases_lt}
-use Rattle.events.specs.declared.Event.{Event}
-use Rattle.trace.specs.declared.fault.Site.{Site}
-use Rattle.trace.specs.declared.fault.TraceFault.{TraceFault}
 use Rattle.trace.specs.declared.place.Place.{Place}
 use Rattle.trace.specs.Codec.{size}
 use Rattle.trace.specs.Words.{word}
-use Rattle.trace.specs.Layout.{count, entry_offset, body_end, good_entry, bad_entry, entries, opening, ended, section_at}
-use Rattle.trace.specs.Reading.{origin, placed, Stands}
+use Rattle.trace.specs.Layout.{count, entry_offset, entry_length, body_end, good_entry, bad_entry, entries, opening, ended, section_at}
+use Rattle.trace.specs.Reading.{origin, Stands}
 use Rattle.trace.proofs.Entries.{body_end_none, body_end_more}
 
 -- nothing is refused at a test: it came out false, and nothing is refused after it
@@ -72,13 +69,11 @@ module _ {bytes : List ℕ} (file : Opened bytes) where
   within s h = bounded bytes file.room file.bodies s h
 
   -- a body ends its length behind its offset
-  pub end_by_entry : (s at : ℕ) → 0 < s → s ≤ count bytes → at ≡ 8 * s - 4 → word 4 bytes at + word 4 bytes (at + 4) ≡ body_end bytes s
-  end_by_entry s at some few e =
-      let m = s - 1 in
-      let from = ap (word 4 bytes) (let f : at ≡ 4 + 8 * m = omega arith in f) ∙ file.offsets m (omega arith) in
-      let long = ap (word 4 bytes) (let f : at + 4 ≡ 8 + 8 * m = omega arith in f) in
-      let end = body_end_more bytes m in
-      let same = ap (body_end bytes) (let f : m + 1 ≡ s = omega arith in f) in
+  pub end_by_entry : (s : ℕ) → 0 < s → s ≤ count bytes → entry_offset bytes (s - 1) + entry_length bytes (s - 1) ≡ body_end bytes s
+  end_by_entry s some few =
+      let from = file.offsets (s - 1) (omega arith) in
+      let end = body_end_more bytes (s - 1) in
+      let same = ap (body_end bytes) (let f : s - 1 + 1 ≡ s = omega arith in f) in
       omega arith
 
 -- the sections end one after another
@@ -124,7 +119,7 @@ section_is bytes s b some few low high =
     let all' = subst (λ n. ended bytes n b ≡ m) f all in
     omega arith
 
-none_from : {A : Type 0} (o : Option A) → is_some o ≡ false → o ≡ None
+pub none_from : {A : Type 0} (o : Option A) → is_some o ≡ false → o ≡ None
 none_from None e = refl
 none_from (Some x) e = absurd (true≢false e)
 
@@ -149,8 +144,3 @@ stands_behind {bytes} file p q s k few low least section events byte high =
     let some = size_some k in
     let end = within file s few in
     (omega arith, subst (λ n. body_end bytes (n - 1) ≤ q.byte) (sym section) (omega arith), omega arith, omega arith)
-
--- a fault that is told with its site was a fault before
-pub placed_ok : (s : Site) (r : Result Event TraceFault) (e : Event) → placed s r ≡ Ok e → is_ok r ≡ true
-placed_ok s (Ok x) e h = refl
-placed_ok s (Err f) e h = absurd (let z : ◌≡◌ {A = ℕ} 0 1 = cc in omega arith)
