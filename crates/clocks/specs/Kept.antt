@@ -10,23 +10,15 @@
 --   ahead             nobody has heard as much of a thread as the thread itself
 --   bounded           a count is at most one more than the passes, so none runs out before the limit
 --   past              a slot's access is one of a thread, and not in the thread's future
-use Rattle.std.specs.Prelude.{◌≡◌, ℕ, ◌+◌, ◌-◌, ◌^◌, ◌<◌, ◌≤◌, min, max, Bool, false, cond, ◌&&◌, [], length, replicate, Some, None, Option, Result, MatchResult, ◌==◌, ◌≢◌, nat_le, slice_index_or, slice_set}
-use Rattle.keepers.specs.Fault.{Why}
+use Rattle.std.specs.Prelude.{◌≡◌, ℕ, ◌+◌, ◌-◌, ◌^◌, ◌<◌, ◌≤◌, min, max, Bool, false, cond, ◌&&◌, replicate, Some, None, Option, ◌==◌, ◌≢◌, nat_le, slice_index_or, slice_set}
 use Rattle.keepers.specs.Meaning.{Meaning, is_thread}
 use Rattle.keepers.specs.Tables.{table}
-use Rattle.keepers.specs.declared.fault.KeeperFault.{KeeperFault}
-use Rattle.keepers.specs.declared.fault.KeeperFault.TheVariants.{OutOfRange}
-use Rattle.clocks.specs.Vectors.{count_at}
+use Rattle.clocks.specs.Vectors.{heard_of}
 use Rattle.clocks.specs.declared.keeper.Clocks.{Clocks}
-use Rattle.clocks.specs.declared.vector.ClockVector.{ClockVector}
 use Rattle.clocks.specs.declared.vector.Epoch.{Epoch}
 
--- what stands where there is no holder
-abbrev pub no_clock : ClockVector
-no_clock = record { counts = [] }
-
 abbrev pub clock_at : Clocks → ℕ → ℕ → ℕ
-clock_at k h t = count_at (slice_index_or k.clocks h no_clock) t
+clock_at k h t = heard_of k.clocks h t
 
 abbrev pub epoch_at : Clocks → ℕ → Option Epoch
 epoch_at k s = slice_index_or k.epochs s None
@@ -59,27 +51,3 @@ with_epoch k slot v = record { clocks = k.clocks; epochs = slice_set k.epochs sl
 -- how a clear leaves a keeper: each thread has heard of itself alone, no access and no pass was made
 abbrev pub Started : Clocks → Type 0
 Started k = ((h t : ℕ) → h < 136 → t < 8 → clock_at k h t ≡ cond (h == t) 1 0) × (k.epochs ≡ replicate 576 None) × (k.passes ≡ 0)
-
--- the answer r and the keeper k' that a function makes of k: what is done in range, and that nothing
--- else changes; why it is refused, and then k' is k
-
-abbrev pub Begins : Clocks → Clocks → ℕ → ℕ → Result (Unit {0}) KeeperFault → Type 0
-Begins k k' slot thread r = MatchResult r
-    (λ _. (slot < 576) × (thread < 8) × (slot < length k.epochs) × (k' ≡ with_epoch k slot (Some (record { thread = thread; count = clock_at k thread thread }))))
-    (λ e. (e ≡ OutOfRange) × (slot < 576 → thread < 8 → ⊥) × (k' ≡ k))
-
-abbrev pub Forgets : Clocks → Clocks → ℕ → Result (Unit {0}) KeeperFault → Type 0
-Forgets k k' slot r = MatchResult r
-    (λ _. (slot < 576) × (slot < length k.epochs) × (k' ≡ with_epoch k slot None))
-    (λ e. (e ≡ OutOfRange) × (576 ≤ slot) × (k' ≡ k))
-
-abbrev pub Passes : Clocks → Clocks → ℕ → ℕ → Result (Unit {0}) KeeperFault → Type 0
-Passes k k' from to r = MatchResult r
-    (λ _. (from < 136) × (to < 136) × (k.passes < 200000000)
-    × ((h t : ℕ) → h < 136 → t < 8 → clock_at k' h t ≡ moved (clock_at k) from to h t) × (k'.epochs ≡ k.epochs) × (k'.passes ≡ k.passes + 1))
-    (λ e. Why e (from < 136 → to < 136 → ⊥) ((from < 136) × (to < 136) × (200000000 ≤ k.passes)) × (k' ≡ k))
-
-abbrev pub Asks : Clocks → ℕ → ℕ → Result Bool KeeperFault → Type 0
-Asks k slot holder r = MatchResult r
-    (λ b. (slot < 576) × (holder < 136) × (b ≡ reached (epoch_at k slot) (clock_at k holder)))
-    (λ e. (e ≡ OutOfRange) × (slot < 576 → holder < 136 → ⊥))

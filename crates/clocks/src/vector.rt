@@ -29,11 +29,7 @@ impl ClockVector {
     pub fn count(&self, thread: u8) -> u32
         ensures { result ≡ count_at self.now thread }
     {
-        if thread < THREADS {
-            self.counts[thread as usize]
-        } else {
-            0
-        }
+        self.counts.get(thread as usize).copied().unwrap_or(0)
     }
 
     // Whether the epoch lies at or before this time.
@@ -47,8 +43,8 @@ impl ClockVector {
     pub fn join(&mut self, other: &ClockVector)
         ensures { (t : ℕ) → count_at self.new t ≡ max (count_at self.old t) (count_at other.now t) }
     {
-        for thread in 0..8 {
-            self.counts[thread] = self.counts[thread].max(other.counts[thread]);
+        for (thread, count) in self.counts.iter_mut().enumerate() {
+            *count = (*count).max(other.counts[thread]);
         }
     }
 

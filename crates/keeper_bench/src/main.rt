@@ -10,13 +10,7 @@ use shortcut::ShortCut;
 use std::env;
 
 fn told_to_measure(rt: &HostRuntime) -> anyhow::Result<bool> {
-    let mut told = false;
-    for word in env::args(rt)? {
-        if word.as_str() == "measure" {
-            told = true;
-        }
-    }
-    Ok(told)
+    Ok(env::args(rt)?.any(|word| word.as_str() == "measure"))
 }
 
 fn measure_all(rt: &HostRuntime) -> anyhow::Result<()> {

@@ -25,39 +25,30 @@ fn holder_of(number: u64) -> u8 {
 }
 
 fn begins<K: Keeper>(keeper: &mut K) {
-    for turn in 0..BEGINS {
-        let number = scrambled(turn);
+    for number in (0..BEGINS).map(scrambled) {
         let _ = keeper.begin(slot_of(number), (number % THREADS as u64) as u8);
     }
 }
 
 fn passes<K: Keeper>(keeper: &mut K, how_many: u64) {
-    for turn in 0..how_many {
-        let number = scrambled(turn);
+    for number in (0..how_many).map(scrambled) {
         let _ = keeper.pass(holder_of(number), holder_of(number >> 8));
     }
 }
 
 // How many were answered yes, so that no question can be left out.
-fn asks<K: Keeper>(keeper: &K) -> u64 {
-    let mut yes: u64 = 0;
-    for turn in 0..ASKS {
-        let number = scrambled(turn);
-        if let Ok(true) = keeper.ask(slot_of(number), holder_of(number >> 8)) {
-            yes = yes.saturating_add(1);
-        }
-    }
-    yes
+fn asks<K: Keeper>(keeper: &K) -> usize {
+    (0..ASKS)
+        .map(scrambled)
+        .filter(|number| keeper.ask(slot_of(*number), holder_of(*number >> 8)) == Ok(true))
+        .count()
 }
 
 // How many calls a second.
 fn rate(calls: u64, span: Duration) -> u128 {
-    let nanos = span.as_nanos();
-    if nanos == 0 {
-        0
-    } else {
-        calls as u128 * 1_000_000_000 / nanos
-    }
+    (calls as u128 * 1_000_000_000)
+        .checked_div(span.as_nanos())
+        .unwrap_or(0)
 }
 
 pub(crate) fn run<K: Keeper>(rt: &HostRuntime, name: &str, keeper: &mut K) -> anyhow::Result<()> {

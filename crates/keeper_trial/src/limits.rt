@@ -1,79 +1,40 @@
 // The last value of each range and the first past it, with what is to be answered.
+use keepers::KeeperAnswer::{Done, Holds, Passes, Refused};
 use keepers::{KeeperAnswer, KeeperCall, KeeperFault};
 
-const OUT: KeeperAnswer = KeeperAnswer::Refused(KeeperFault::OutOfRange);
+const OUT: KeeperAnswer = Refused(KeeperFault::OutOfRange);
 
-pub const CALLS: [KeeperCall; 18] = [
-    KeeperCall::Begin {
-        slot: 575,
-        thread: 7,
-    },
-    KeeperCall::Begin {
-        slot: 576,
-        thread: 7,
-    },
-    KeeperCall::Begin {
-        slot: 575,
-        thread: 8,
-    },
-    KeeperCall::Ask {
-        slot: 575,
-        holder: 7,
-    },
-    KeeperCall::Ask {
-        slot: 575,
-        holder: 135,
-    },
-    KeeperCall::Ask {
-        slot: 575,
-        holder: 136,
-    },
-    KeeperCall::Ask {
-        slot: 576,
-        holder: 135,
-    },
-    KeeperCall::Pass { from: 7, to: 135 },
-    KeeperCall::Pass { from: 7, to: 136 },
-    KeeperCall::Pass { from: 136, to: 7 },
-    KeeperCall::Pass { from: 135, to: 0 },
-    KeeperCall::Ask {
-        slot: 575,
-        holder: 135,
-    },
-    KeeperCall::Ask {
-        slot: 575,
-        holder: 0,
-    },
-    KeeperCall::Ask {
-        slot: 575,
-        holder: 1,
-    },
-    KeeperCall::Count,
-    KeeperCall::Forget { slot: 576 },
-    KeeperCall::Forget { slot: 575 },
-    KeeperCall::Ask {
-        slot: 575,
-        holder: 7,
-    },
-];
+fn begin(slot: usize, thread: u8) -> KeeperCall {
+    KeeperCall::Begin { slot, thread }
+}
 
-pub const ANSWERS: [KeeperAnswer; 18] = [
-    KeeperAnswer::Done,
-    OUT,
-    OUT,
-    KeeperAnswer::Holds(true),
-    KeeperAnswer::Holds(false),
-    OUT,
-    OUT,
-    KeeperAnswer::Done,
-    OUT,
-    OUT,
-    KeeperAnswer::Done,
-    KeeperAnswer::Holds(true),
-    KeeperAnswer::Holds(true),
-    KeeperAnswer::Holds(false),
-    KeeperAnswer::Passes(2),
-    OUT,
-    KeeperAnswer::Done,
-    KeeperAnswer::Holds(false),
-];
+fn pass(from: u8, to: u8) -> KeeperCall {
+    KeeperCall::Pass { from, to }
+}
+
+fn ask(slot: usize, holder: u8) -> KeeperCall {
+    KeeperCall::Ask { slot, holder }
+}
+
+pub(crate) fn answered() -> [(KeeperCall, KeeperAnswer); 18] {
+    [
+        (begin(575, 7), Done),
+        (begin(576, 7), OUT),
+        (begin(575, 8), OUT),
+        (ask(575, 7), Holds(true)),
+        (ask(575, 135), Holds(false)),
+        (ask(575, 136), OUT),
+        (ask(576, 135), OUT),
+        (pass(7, 135), Done),
+        (pass(7, 136), OUT),
+        (pass(136, 7), OUT),
+        (pass(135, 0), Done),
+        (ask(575, 135), Holds(true)),
+        (ask(575, 0), Holds(true)),
+        (ask(575, 1), Holds(false)),
+        (KeeperCall::Count, Passes(2)),
+        (KeeperCall::Forget { slot: 576 }, OUT),
+        (KeeperCall::Forget { slot: 575 }, Done),
+        (ask(575, 7), Holds(false)),
+    ]
+}

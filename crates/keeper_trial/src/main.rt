@@ -27,18 +27,20 @@ fn at_random(rt: &HostRuntime, piles: &mut Piles) -> anyhow::Result<()> {
         "answers that differ between piles: {}",
         tally::differences(&answers)
     )?;
-    let sweep = piles.sweep();
-    println!(rt; "holders in sets at the end: {}", sweep.members)?;
-    println!(rt; "slots and holders that differ: {}", sweep.differ)?;
+    println!(rt; "holders in sets at the end: {}", piles.members())?;
+    println!(rt; "slots and holders that differ: {}", piles.disagreements())?;
     Ok(())
 }
 
 // Calls at the ends of the ranges, against the answers written beside them.
 fn at_limits(rt: &HostRuntime, piles: &mut Piles) -> anyhow::Result<()> {
-    let answers = piles.drive_all(rt.alloc(), &limits::CALLS)?;
+    let answered = limits::answered();
+    let calls = answered.map(|(call, _)| call);
+    let expected = answered.map(|(_, answer)| answer);
+    let answers = piles.drive_all(rt.alloc(), &calls)?;
     println!(rt;
         "limit values answered wrongly: {}",
-        tally::unlike(answers.locksets.as_slice(), &limits::ANSWERS)
+        tally::unlike(answers.locksets.as_slice(), &expected)
     )?;
     println!(rt;
         "limit values that differ between piles: {}",

@@ -6,7 +6,7 @@ ghost use Rattle.keepers.specs.Meaning.{cleared};
 ghost use Rattle.locksets.specs.Kept.{locksets_mean};
 
 use clocks::Clocks;
-use keepers::{Keeper, KeeperAnswer, KeeperCall, alike, drive};
+use keepers::{HOLDERS, Keeper, KeeperAnswer, KeeperCall, SLOTS, alike, drive};
 use locksets::Locksets;
 use shortcut::ShortCut;
 use std::alloc::{AllocError, Global};
@@ -71,48 +71,33 @@ impl Piles {
 
     // Whether all answer alike to one question.
     fn agree(&self, slot: usize, holder: u8) -> bool {
-        let expected = KeeperAnswer::held(self.locksets.ask(slot, holder));
-        KeeperAnswer::held(self.clocks.ask(slot, holder)) == expected
-            && KeeperAnswer::held(self.over_locksets.ask(slot, holder)) == expected
-            && KeeperAnswer::held(self.over_clocks.ask(slot, holder)) == expected
-            && KeeperAnswer::held(self.twice.ask(slot, holder)) == expected
+        let expected = self.locksets.ask(slot, holder);
+        [
+            self.clocks.ask(slot, holder),
+            self.over_locksets.ask(slot, holder),
+            self.over_clocks.ask(slot, holder),
+            self.twice.ask(slot, holder),
+        ]
+        .iter()
+        .all(|answer| *answer == expected)
     }
 
-    // Asks every pile for every holder of a slot, and for the first past the range.
-    fn sweep_slot(&self, slot: usize, sweep: &mut Sweep) {
-        for holder in 0..137 {
-            let member = self.locksets.ask(slot, holder) == Ok(true);
-            sweep.note(member, self.agree(slot, holder));
-        }
+    // How many holders the sets have together.
+    pub(crate) fn members(&self) -> usize {
+        how_many(|slot, holder| self.locksets.ask(slot, holder) == Ok(true))
     }
 
-    // The same for every slot, and for the first past the range.
-    pub(crate) fn sweep(&self) -> Sweep {
-        let mut sweep = Sweep {
-            members: 0,
-            differ: 0,
-        };
-        for slot in 0..577 {
-            self.sweep_slot(slot, &mut sweep);
-        }
-        sweep
+    // How many questions are answered differently.
+    pub(crate) fn disagreements(&self) -> usize {
+        how_many(|slot, holder| !self.agree(slot, holder))
     }
 }
 
-// How many holders the sets have together, and how many questions were answered differently.
-#[derive(Clone, Copy)]
-pub struct Sweep {
-    pub members: usize,
-    pub differ: usize,
-}
-
-impl Sweep {
-    fn note(&mut self, member: bool, agreed: bool) {
-        if member {
-            self.members = self.members.saturating_add(1);
-        }
-        if !agreed {
-            self.differ = self.differ.saturating_add(1);
-        }
-    }
+// Over every holder of every slot, and the first past each range: how many pass the test.
+fn how_many<F: Fn(usize, u8) -> bool>(test: F) -> usize
+    requires { F.IsAlwaysCallable test }
+{
+    (0..=SLOTS)
+        .map(|slot| { (0..=HOLDERS).filter(|holder| test(slot, *holder)).count() })
+        .fold(0, |all: usize, some| all.saturating_add(some))
 }

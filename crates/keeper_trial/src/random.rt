@@ -70,9 +70,5 @@ pub(crate) fn calls(heap: Global, how_many: usize) -> Result<Vec<KeeperCall>, Al
     let mut random = Random {
         state: 0x9E37_79B9_7F4A_7C15,
     };
-    let mut calls = Vec::new(heap);
-    for _ in 0..how_many {
-        calls.push(random.call())?;
-    }
-    Ok(calls)
+    (0..how_many).map(|_| random.call()).collect(heap)
 }

@@ -3,7 +3,7 @@ use crate::piles::PileAnswers;
 use keepers::KeeperAnswer;
 
 // How many answers there were of each kind.
-#[derive(Clone, Copy)]
+#[derive(Clone, Copy, Default)]
 pub struct Tally {
     pub done: usize,
     pub refused: usize,
@@ -14,23 +14,18 @@ pub struct Tally {
 
 impl Tally {
     fn add(&mut self, answer: KeeperAnswer) {
-        match answer {
-            KeeperAnswer::Done => self.done = self.done.saturating_add(1),
-            KeeperAnswer::Refused(_) => self.refused = self.refused.saturating_add(1),
-            KeeperAnswer::Holds(true) => self.yes = self.yes.saturating_add(1),
-            KeeperAnswer::Holds(false) => self.no = self.no.saturating_add(1),
-            KeeperAnswer::Passes(_) => self.counts = self.counts.saturating_add(1),
-        }
+        let count = match answer {
+            KeeperAnswer::Done => &mut self.done,
+            KeeperAnswer::Refused(_) => &mut self.refused,
+            KeeperAnswer::Holds(true) => &mut self.yes,
+            KeeperAnswer::Holds(false) => &mut self.no,
+            KeeperAnswer::Passes(_) => &mut self.counts,
+        };
+        *count = count.saturating_add(1);
     }
 
     pub(crate) fn of(answers: &[KeeperAnswer]) -> Tally {
-        let mut tally = Tally {
-            done: 0,
-            refused: 0,
-            yes: 0,
-            no: 0,
-            counts: 0,
-        };
+        let mut tally = Tally::default();
         for answer in answers {
             tally.add(*answer);
         }
@@ -40,19 +35,19 @@ impl Tally {
 
 // How many answers stand in one list and not at the same place in the other.
 pub(crate) fn unlike(a: &[KeeperAnswer], b: &[KeeperAnswer]) -> usize {
-    let mut differ = a.len().abs_diff(b.len());
-    for (x, y) in a.iter().zip(b.iter()) {
-        if *x != *y {
-            differ = differ.saturating_add(1);
-        }
-    }
-    differ
+    let differ = a.iter().zip(b).filter(|(x, y)| x != y).count();
+    differ.saturating_add(a.len().abs_diff(b.len()))
 }
 
 pub(crate) fn differences(answers: &PileAnswers) -> usize {
     let expected = answers.locksets.as_slice();
-    unlike(expected, answers.clocks.as_slice())
-        .saturating_add(unlike(expected, answers.over_locksets.as_slice()))
-        .saturating_add(unlike(expected, answers.over_clocks.as_slice()))
-        .saturating_add(unlike(expected, answers.twice.as_slice()))
+    [
+        &answers.clocks,
+        &answers.over_locksets,
+        &answers.over_clocks,
+        &answers.twice,
+    ]
+    .iter()
+    .map(|pile| unlike(expected, pile.as_slice()))
+    .fold(0, |all: usize, some| all.saturating_add(some))
 }

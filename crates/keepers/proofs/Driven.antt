@@ -43,3 +43,6 @@ after_within m Count few = few
 pub all_within : (m : Meaning) (cs : List KeeperCall) → m.passes ≤ 200000000 → (after_all m cs).passes ≤ 200000000
 all_within m [] few = few
 all_within m (c ∷ cs) few = all_within (after m c) cs (after_within m c few)
+
+-- what a loop over the calls needs
+pub ruleset driven = (after_more, answers_more, after_end, answers_end, all_within, passes_cleared)

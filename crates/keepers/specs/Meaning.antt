@@ -56,8 +56,12 @@ begin_answer slot thread = in_range (is_slot slot && is_thread thread)
 unfoldable pub forget_answer : ℕ → Result (Unit {0}) KeeperFault
 forget_answer slot = in_range (is_slot slot)
 
+-- of a pass only the count matters
+abbrev pub pass_at : ℕ → ℕ → ℕ → Result (Unit {0}) KeeperFault
+pass_at passes from to = cond (is_holder from && is_holder to) (cond (nat_lt passes 200000000) (Ok tt) (Err PassLimit)) (Err OutOfRange)
+
 unfoldable pub pass_answer : Meaning → ℕ → ℕ → Result (Unit {0}) KeeperFault
-pass_answer m from to = cond (is_holder from && is_holder to) (cond (may_pass m) (Ok tt) (Err PassLimit)) (Err OutOfRange)
+pass_answer m from to = pass_at m.passes from to
 
 unfoldable pub ask_answer : Meaning → ℕ → ℕ → Result Bool KeeperFault
 ask_answer m slot holder = cond (is_slot slot && is_holder holder) (Ok (m.sets slot holder)) (Err OutOfRange)

@@ -5,9 +5,9 @@ ghost use Rattle.keepers.specs.Fault.{fault_number};
 #[derive(Clone, Copy, PartialEq, Eq, Debug)]
 pub enum KeeperFault {
     // a slot, a holder or a beginning thread is beyond its range
-    OutOfRange,
+    OutOfRange = 20,
     // no more passes are counted
-    PassLimit,
+    PassLimit = 21,
 }
 
 impl KeeperFault {
@@ -15,9 +15,6 @@ impl KeeperFault {
     pub fn number(self) -> u8
         ensures { result ≡ fault_number self }
     {
-        match self {
-            KeeperFault::OutOfRange => 20,
-            KeeperFault::PassLimit => 21,
-        }
+        self as u8
     }
 }

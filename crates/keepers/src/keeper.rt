@@ -9,7 +9,8 @@ ghost use Rattle.keepers.specs.Meaning.{begin_answer, forget_answer, pass_answer
 
 use crate::fault::KeeperFault;
 
-// A type that implements this is lawful. Nothing is promised of a keeper that was never cleared.
+// A type that implements this is lawful. Nothing is promised of a keeper that was never cleared, and
+// a layer may be made over such a one: so `live` stands in the clauses and in no type.
 pub trait Keeper {
     // the set of each slot, and the count of passes
     ghost meaning: { Self → Meaning };
@@ -25,20 +26,20 @@ pub trait Keeper {
     // Makes the slot's set just the thread.
     fn begin(&mut self, slot: usize, thread: u8) -> Result<(), KeeperFault>
         ensures lives { live self.old → live self.new }
-        ensures answer { live self.old → result ≡ begin_answer slot thread }
-        ensures effect { live self.old → meaning self.new ≡ begun (meaning self.old) slot thread };
+        ensures effect { live self.old → meaning self.new ≡ begun (meaning self.old) slot thread }
+        ensures answer { live self.old → result ≡ begin_answer slot thread };
 
     // Empties the slot's set.
     fn forget(&mut self, slot: usize) -> Result<(), KeeperFault>
         ensures lives { live self.old → live self.new }
-        ensures answer { live self.old → result ≡ forget_answer slot }
-        ensures effect { live self.old → meaning self.new ≡ forgotten (meaning self.old) slot };
+        ensures effect { live self.old → meaning self.new ≡ forgotten (meaning self.old) slot }
+        ensures answer { live self.old → result ≡ forget_answer slot };
 
     // Adds the second holder to every set that has the first, and counts one.
     fn pass(&mut self, from: u8, to: u8) -> Result<(), KeeperFault>
         ensures lives { live self.old → live self.new }
-        ensures answer { live self.old → result ≡ pass_answer (meaning self.old) from to }
-        ensures effect { live self.old → meaning self.new ≡ passed (meaning self.old) from to };
+        ensures effect { live self.old → meaning self.new ≡ passed (meaning self.old) from to }
+        ensures answer { live self.old → result ≡ pass_answer (meaning self.old) from to };
 
     // Whether the holder is in the slot's set.
     fn ask(&self, slot: usize, holder: u8) -> Result<bool, KeeperFault>

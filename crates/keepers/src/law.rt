@@ -9,6 +9,7 @@ use std::alloc::{AllocError, Global};
 
 // Clears the keeper and makes the calls in order. Room for the answers is found first: where there
 // is none, the keeper is not touched.
+#[tactic(auto, using(crate::proofs::Driven::driven))]
 pub fn drive<K: Keeper>(
     heap: Global,
     keeper: &mut K,

@@ -6,9 +6,11 @@ pub mod fault;
 pub mod keeper;
 pub mod law;
 pub mod limits;
+pub mod ranges;
 
 pub use calls::{KeeperAnswer, KeeperCall};
 pub use fault::KeeperFault;
 pub use keeper::Keeper;
 pub use law::{BothAnswers, alike, drive};
 pub use limits::{HOLDERS, PASS_LIMIT, SLOTS, THREADS};
+pub use ranges::{check_ask, check_begin, check_forget, check_pass};

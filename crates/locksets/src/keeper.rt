@@ -1,10 +1,9 @@
 // The keeper that holds a set for each slot.
 ghost use Rattle.std.specs.Prelude.{◌≡◌, ℕ, ◌<◌};
-ghost use Rattle.locksets.specs.Sets.{carried, Wide};
-ghost use Rattle.locksets.specs.Kept.{locksets_mean, no_sets, set_at, Begins, Forgets, Passes, Asks};
+ghost use Rattle.locksets.specs.Kept.{locksets_mean, no_sets, Carries};
 
 use crate::set::LockSet;
-use keepers::{HOLDERS, Keeper, KeeperFault, PASS_LIMIT, SLOTS, THREADS};
+use keepers::{Keeper, KeeperFault, SLOTS, check_ask, check_begin, check_forget, check_pass};
 
 #[derive(Drop)]
 pub struct Locksets {
@@ -12,7 +11,6 @@ pub struct Locksets {
     passes: u32,
 }
 
-// The work on the sets, each function stated by the sets themselves.
 impl Locksets {
     pub fn new() -> Locksets
         ensures { result ≡ no_sets }
@@ -23,70 +21,15 @@ impl Locksets {
         }
     }
 
-    fn empty_all(&mut self)
-        ensures { self.new ≡ no_sets }
-    {
-        self.sets = [LockSet::empty(); SLOTS];
-        self.passes = 0;
-    }
-
-    fn begin_slot(&mut self, slot: usize, thread: u8) -> Result<(), KeeperFault>
-        ensures { Begins self.old self.new slot thread result }
-    {
-        if slot >= SLOTS || thread >= THREADS {
-            return Err(KeeperFault::OutOfRange);
-        }
-        self.sets[slot] = LockSet::only(thread);
-        Ok(())
-    }
-
-    fn empty_slot(&mut self, slot: usize) -> Result<(), KeeperFault>
-        ensures { Forgets self.old self.new slot result }
-    {
-        if slot >= SLOTS {
-            return Err(KeeperFault::OutOfRange);
-        }
-        self.sets[slot] = LockSet::empty();
-        Ok(())
-    }
-
     // Does a pass to the set of every slot.
+    #[tactic(auto, using(crate::proofs::Means::carried_more, crate::proofs::Means::rest_more))]
     fn carry_all(&mut self, from: u8, to: u8)
-        ensures sets { (s : ℕ) → s < 576 → (set_at self.new s ≡ carried (set_at self.old s) from to) × Wide (set_at self.old s) to }
+        ensures sets { (s : ℕ) → s < 576 → Carries self.old.sets self.new.sets from to s }
         ensures passes { self.new.passes ≡ self.old.passes }
     {
-        for slot in 0..SLOTS {
-            self.sets[slot].carry(from, to);
+        for set in &mut self.sets {
+            set.carry(from, to);
         }
-    }
-
-    fn carry_counted(&mut self, from: u8, to: u8) -> Result<(), KeeperFault>
-        ensures { Passes self.old self.new from to result }
-    {
-        if from >= HOLDERS || to >= HOLDERS {
-            return Err(KeeperFault::OutOfRange);
-        }
-        if self.passes >= PASS_LIMIT {
-            return Err(KeeperFault::PassLimit);
-        }
-        self.carry_all(from, to);
-        self.passes += 1;
-        Ok(())
-    }
-
-    fn has(&self, slot: usize, holder: u8) -> Result<bool, KeeperFault>
-        ensures { Asks self.now slot holder result }
-    {
-        if slot >= SLOTS || holder >= HOLDERS {
-            return Err(KeeperFault::OutOfRange);
-        }
-        Ok(self.sets[slot].contains(holder))
-    }
-
-    fn passes_made(&self) -> u32
-        ensures { result ≡ self.now.passes }
-    {
-        self.passes
     }
 }
 
@@ -96,27 +39,41 @@ impl Keeper for Locksets {
 
     ghost live = { λ _. Unit {0} };
 
+    #[tactic(auto, using(crate::proofs::Means::means_cleared))]
     fn clear(&mut self) {
-        self.empty_all();
+        *self = Locksets::new();
     }
 
+    #[tactic(auto, using(keepers::proofs::Laws::begun_refused, crate::proofs::Means::means_begun))]
     fn begin(&mut self, slot: usize, thread: u8) -> Result<(), KeeperFault> {
-        self.begin_slot(slot, thread)
+        check_begin(slot, thread)?;
+        self.sets[slot] = LockSet::only(thread);
+        Ok(())
     }
 
+    #[tactic(auto, using(keepers::proofs::Laws::forgotten_refused, crate::proofs::Means::means_forgotten))]
     fn forget(&mut self, slot: usize) -> Result<(), KeeperFault> {
-        self.empty_slot(slot)
+        check_forget(slot)?;
+        self.sets[slot] = LockSet::empty();
+        Ok(())
     }
 
+    #[tactic(auto, using(crate::proofs::Means::pass_answered, crate::proofs::Means::pass_refused, crate::proofs::Means::means_passed))]
     fn pass(&mut self, from: u8, to: u8) -> Result<(), KeeperFault> {
-        self.carry_counted(from, to)
+        check_pass(self.passes, from, to)?;
+        self.carry_all(from, to);
+        self.passes += 1;
+        Ok(())
     }
 
+    #[tactic(auto, using(crate::proofs::Means::means_asked), unfolding(keepers::specs::Meaning::ask_answer))]
     fn ask(&self, slot: usize, holder: u8) -> Result<bool, KeeperFault> {
-        self.has(slot, holder)
+        check_ask(slot, holder)?;
+        Ok(self.sets[slot].contains(holder))
     }
 
+    #[tactic(auto, unfolding(crate::specs::Kept::locksets_mean))]
     fn count(&self) -> u32 {
-        self.passes_made()
+        self.passes
     }
 }

@@ -1,5 +1,5 @@
 -- The agreement of the owner table with the keeper below, kept by each call. Assumes nothing.
-use Rattle.std.proofs.Common.{◌≡◌, ℕ, ◌<◌, Bool, true, cond, ◌&&◌, eqb, get_or, Some, None, Ok, Err, Option, Result, sym, refl, ap, ◌∙◌, subst, inl, inr, arith, MatchResult}
+use Rattle.std.proofs.Common.{◌≡◌, ℕ, ◌<◌, true, cond, ◌&&◌, eqb, get_or, Some, None, Ok, Err, Option, sym, ap, ◌∙◌, subst, inl, inr, arith}
 use Rattle.std.proofs.lemmas.List.{get_or-replicate}
 use Rattle.std.proofs.lemmas.Bool.{cases_eq, cases_lt, lt-ltb, le-ltb, eq-eqb, ne_eqb, cond-true, cond-false, and_from, and_left, and_right}
 use Rattle.keepers.specs.Meaning.{Meaning, is_slot, begun, forgotten, passed, begin_answer, ask_answer}
@@ -12,10 +12,10 @@ use Rattle.shortcut.specs.declared.owners.OwnerTable.{OwnerTable}
 -- agreement
 
 pub owned_none : (m : Meaning) (o : OwnerTable) → o ≡ no_owners → Owned m o
-owned_none m o none s t e = absurd (let n = ap (λ (x : OwnerTable). owner_at x s) none ∙ nobody in let z : ◌≡◌ {A = ℕ} 0 1 = cc in omega arith)
+owned_none m o none = record { owned = λ s t e. absurd (let n = ap (λ (x : OwnerTable). owner_at x s) none ∙ nobody s in let z : ◌≡◌ {A = ℕ} 0 1 = cc in omega arith) }
   where
-    nobody : owner_at no_owners s ≡ None
-    nobody = elim (cases_lt s 576) [
+    nobody : (s : ℕ) → owner_at no_owners s ≡ None
+    nobody s = elim (cases_lt s 576) [
       | inl l ↦ cond-true (is_slot s) (get_or no_owners.owners s None) None (lt-ltb s 576 l) ∙ get_or-replicate 576 s None None l
       | inr l ↦ cond-false (is_slot s) (get_or no_owners.owners s None) None (le-ltb s 576 l)
     ]
@@ -32,54 +32,51 @@ entry slot s v old x P e here there = elim (cases_eq s slot) [
 
 pub owned_begun : (m : Meaning) (o o' : OwnerTable) (slot thread : ℕ) → slot < 576 → thread < 8 → Owned m o
     → ((s : ℕ) → owner_at o' s ≡ rewritten o slot (Some thread) s) → Owned (begun m slot thread) o'
-owned_begun m o o' slot thread p q owned written s t e =
-    entry slot s (Some thread) (owner_at o s) (Some t) ((s < 576) × (t < 8) × ((begun m slot thread).sets s t ≡ true)) (sym (written s) ∙ e)
-    (λ same range f. let g : thread ≡ t = cc in (range, omega arith, ap (λ n. (begun m slot thread).sets n t) same ∙ sets_begun_here slot thread p q m t ∙ eq-eqb t thread (sym g)))
-    (λ other f. let h = owned s t f in (h.0, h.1, sets_begun_other slot thread p q m s t (λ same. other same h.0) ∙ h.2))
+owned_begun m o o' slot thread p q owned written = record {
+  owned = λ s t e.
+      entry slot s (Some thread) (owner_at o s) (Some t) ((s < 576) × (t < 8) × ((begun m slot thread).sets s t ≡ true)) (sym (written s) ∙ e)
+      (λ same range f. let g : thread ≡ t = cc in (range, omega arith, ap (λ n. (begun m slot thread).sets n t) same ∙ sets_begun_here slot thread p q m t ∙ eq-eqb t thread (sym g)))
+      (λ other f. let h = owned.owned s t f in (h.0, h.1, sets_begun_other slot thread p q m s t (λ same. other same h.0) ∙ h.2));
+}
 
 -- a slot in range is forgotten in both; out of range, in neither
 pub owned_forgotten : (m : Meaning) (o o' : OwnerTable) (slot : ℕ) → Owned m o → ((s : ℕ) → owner_at o' s ≡ rewritten o slot None s) → Owned (forgotten m slot) o'
-owned_forgotten m o o' slot owned written s t e =
-    entry slot s None (owner_at o s) (Some t) ((s < 576) × (t < 8) × ((forgotten m slot).sets s t ≡ true)) (sym (written s) ∙ e)
-    (λ same range f. absurd (let z : ◌≡◌ {A = ℕ} 0 1 = cc in omega arith))
-    (λ other f. let h = owned s t f in (h.0, h.1, kept h.0 other ∙ h.2))
+owned_forgotten m o o' slot owned written = record {
+  owned = λ s t e.
+      entry slot s None (owner_at o s) (Some t) ((s < 576) × (t < 8) × ((forgotten m slot).sets s t ≡ true)) (sym (written s) ∙ e)
+      (λ same range f. absurd (let z : ◌≡◌ {A = ℕ} 0 1 = cc in omega arith))
+      (λ other f. let h = owned.owned s t f in (h.0, h.1, kept s t h.0 other ∙ h.2));
+}
   where
-    kept : s < 576 → (s ≡ slot → s < 576 → ⊥) → (forgotten m slot).sets s t ≡ m.sets s t
-    kept range other = elim (cases_lt slot 576) [
+    kept : (s t : ℕ) → s < 576 → (s ≡ slot → s < 576 → ⊥) → (forgotten m slot).sets s t ≡ m.sets s t
+    kept s t range other = elim (cases_lt slot 576) [
       | inl p ↦ sets_forgotten_other slot p m s t (λ same. other same range)
       | inr p ↦ ap (λ (n : Meaning). n.sets s t) (forgotten_same m slot p)
     ]
 
--- what each function of the layer comes to: with the keeper below live and the owners agreeing, they
--- still agree afterwards
+-- after each call, where the owners agreed before
 
-pub owned_passed : (m m' : Meaning) (o o' : OwnerTable) (from to : ℕ) → Owned m o → m' ≡ passed m from to → o' ≡ o → Owned m' o'
-owned_passed m m' o o' from to owned effect same s t e =
-    let h = owned s t (sym (ap (λ (x : OwnerTable). owner_at x s) same) ∙ e) in
-    (h.0, h.1, ap (λ (n : Meaning). n.sets s t) effect ∙ stays_passed m from to s t h.2)
+pub agree_passed : (m m' : Meaning) (o : OwnerTable) (from to : ℕ) → m' ≡ passed m from to → Owned m o → Owned m' o
+agree_passed m m' o from to effect owned = record {
+  owned = λ s t e.
+      let h = owned.owned s t e in
+      (h.0, h.1, ap (λ (n : Meaning). n.sets s t) effect ∙ stays_passed m from to s t h.2);
+}
 
-pub agree_begun : (m m' : Meaning) (o o' : OwnerTable) (slot thread : ℕ) (r : Result (Unit {0}) KeeperFault) → r ≡ begin_answer slot thread → m' ≡ begun m slot thread
-    → MatchResult r (λ _. (s : ℕ) → owner_at o' s ≡ rewritten o slot (Some thread) s) (λ _. o' ≡ o) → Owned m o → Owned m' o'
-agree_begun m m' o o' slot thread (Ok x) answer effect written owned =
-    let range = begin_in_range slot thread (sym answer) in
+pub agree_begun : (m m' : Meaning) (o o' : OwnerTable) (slot thread : ℕ) → m' ≡ begun m slot thread → begin_answer slot thread ≡ Ok tt
+    → ((s : ℕ) → owner_at o' s ≡ rewritten o slot (Some thread) s) → Owned m o → Owned m' o'
+agree_begun m m' o o' slot thread effect done written owned =
+    let range = begin_in_range slot thread done in
     subst (λ (n : Meaning). Owned n o') (sym effect) (owned_begun m o o' slot thread range.0 range.1 owned written)
-agree_begun m m' o o' slot thread (Err e) answer effect same owned =
-    subst (λ (n : Meaning). Owned n o') (sym (effect ∙ begun_refused m slot thread e (sym answer))) (subst (Owned m) (sym same) owned)
+
+pub agree_refused : (m m' : Meaning) (o : OwnerTable) (slot thread : ℕ) (e : KeeperFault) → Err e ≡ begin_answer slot thread → m' ≡ begun m slot thread → Owned m o → Owned m' o
+agree_refused m m' o slot thread e refused effect owned = subst (λ (n : Meaning). Owned n o) (sym (effect ∙ begun_refused m slot thread e (sym refused))) owned
 
 pub agree_forgotten : (m m' : Meaning) (o o' : OwnerTable) (slot : ℕ) → m' ≡ forgotten m slot → ((s : ℕ) → owner_at o' s ≡ rewritten o slot None s) → Owned m o → Owned m' o'
 agree_forgotten m m' o o' slot effect written owned = subst (λ (n : Meaning). Owned n o') (sym effect) (owned_forgotten m o o' slot owned written)
 
--- whether or not the owner asks, the answer is the one from below
-pub agree_asked : (m : Meaning) (o : OwnerTable) (slot holder : ℕ) (r : Result Bool KeeperFault) → Owned m o
-    → (owner_at o slot ≡ Some holder → r ≡ Ok true) → ((owner_at o slot ≡ Some holder → ⊥) → r ≡ ask_answer m slot holder) → r ≡ ask_answer m slot holder
-agree_asked m o slot holder r owned own below = by (owner_at o slot) refl
-  where
-    by : (x : Option ℕ) → owner_at o slot ≡ x → r ≡ ask_answer m slot holder
-    by None e = below (λ f. let z : ◌≡◌ {A = ℕ} 0 1 = cc in omega arith)
-    by (Some t) e = elim (cases_eq t holder) [
-      | inl p ↦
-          let is : owner_at o slot ≡ Some holder = e ∙ ap (λ (n : ℕ). Some n) p in
-          let h = owned slot holder is in
-          own is ∙ ap (λ b. Ok b) (sym h.2) ∙ sym (ask_taken m slot holder h.0 (let small = h.1 in omega arith))
-      | inr d ↦ below (λ f. d (let same : t ≡ holder = cc in same))
-    ]
+-- a yes to the owner is the answer from below
+pub agree_asked : (m : Meaning) (o : OwnerTable) (slot holder : ℕ) → owner_at o slot ≡ Some holder → Owned m o → Ok true ≡ ask_answer m slot holder
+agree_asked m o slot holder is owned =
+    let h = owned.owned slot holder is in
+    ap (λ b. Ok b) (sym h.2) ∙ sym (ask_taken m slot holder h.0 (let small = h.1 in omega arith))

@@ -17,5 +17,5 @@ no_owners = record { owners = replicate 576 None }
 abbrev pub rewritten : OwnerTable → ℕ → Option ℕ → ℕ → Option ℕ
 rewritten o slot v s = cond (is_slot s && s == slot) v (owner_at o s)
 
-abbrev pub Owned : Meaning → OwnerTable → Type 0
-Owned m o = (s t : ℕ) → owner_at o s ≡ Some t → (s < 576) × (t < 8) × (m.sets s t ≡ true)
+pub record Owned (m : Meaning) (o : OwnerTable) : Type 0 where
+  pub owned : (s t : ℕ) → owner_at o s ≡ Some t → (s < 576) × (t < 8) × (m.sets s t ≡ true)

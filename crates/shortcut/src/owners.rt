@@ -22,10 +22,15 @@ impl OwnerTable {
     pub fn owner(&self, slot: usize) -> Option<u8>
         ensures { result ≡ owner_at self.now slot }
     {
+        self.owners.get(slot).copied().flatten()
+    }
+
+    // Writes what is remembered of the slot, if it is in range.
+    fn write(&mut self, slot: usize, owner: Option<u8>)
+        ensures { (s : ℕ) → owner_at self.new s ≡ rewritten self.old slot owner s }
+    {
         if slot < SLOTS {
-            self.owners[slot]
-        } else {
-            None
+            self.owners[slot] = owner;
         }
     }
 
@@ -33,24 +38,20 @@ impl OwnerTable {
     pub fn remember(&mut self, slot: usize, thread: u8)
         ensures { (s : ℕ) → owner_at self.new s ≡ rewritten self.old slot (Some thread) s }
     {
-        if slot < SLOTS {
-            self.owners[slot] = Some(thread);
-        }
+        self.write(slot, Some(thread));
     }
 
     // Remembers nobody for the slot.
     pub fn forget(&mut self, slot: usize)
         ensures { (s : ℕ) → owner_at self.new s ≡ rewritten self.old slot None s }
     {
-        if slot < SLOTS {
-            self.owners[slot] = None;
-        }
+        self.write(slot, None);
     }
 
     // Remembers nobody at all.
     pub fn clear(&mut self)
         ensures { self.new ≡ no_owners }
     {
-        self.owners = [None; SLOTS];
+        *self = OwnerTable::new();
     }
 }
