@@ -24,7 +24,6 @@ use Rattle.certificate.specs.declared.fault.Cause.TheVariants.{Trace, Monitor as
 use Rattle.certificate.specs.declared.fault.Fault.{Fault}
 use Rattle.certificate.specs.declared.finding.Finding.{Finding}
 use Rattle.certificate.specs.declared.run.Run.{Run}
-use Rattle.certificate.specs.declared.running.Race.{Race}
 
 unfoldable pub recorded_all : List Event → List Event → List Event
 recorded_all rec [] = rec
@@ -78,12 +77,6 @@ abbrev pub Added : List Finding → Finding → Result (Unit {0}) RunFault → L
 Added fs f (Ok x) fs' = (length fs < 1000) × (fs' ≡ fs ++ (f ∷ []))
 Added fs f (Err y) fs' = (1000 ≤ length fs) × (fs' ≡ fs) × (y ≡ TooManyFindings)
 
--- the race of a declined event, none of an accepted one, or the fault of a refused one
-abbrev pub RaceOf : Answer → Result (Option Race) RuleFault → Type 0
-RaceOf (accepted s) r = r ≡ Ok None
-RaceOf (refused k) r = (f : RuleFault) × (r ≡ Err f) × (fault_number f ≡ k)
-RaceOf (declined p w) r = r ≡ Ok (Some (record { place = p; witness = w }))
-
 -- the event of number n, so answered, passes or halts the run
 abbrev pub Put : List Finding → ℕ → Answer → Result (Unit {0}) Cause → List Finding → Type 0
 Put fs n a (Ok x) fs' = Passes fs a × (fs' ≡ listed fs n a)
@@ -109,8 +102,3 @@ module _ {K : Type 0} (live : K → Type 0) (meaning : K → Meaning) where
   unfoldable pub RunOn : List ℕ → Place → Run K → Place → Run K → Option Fault → Type 0
   RunOn bytes p s q t end =
       (rec : List Event) → Stands live meaning rec s.monitor → CameTo bytes p rec (vec_items s.findings.list) q t.monitor (vec_items t.findings.list) end
-
--- the fault that ended a run, if one did
-abbrev pub ended : Result (Unit {0}) Fault → Option Fault
-ended (Ok x) = None
-ended (Err f) = Some f

@@ -8,6 +8,7 @@
 --                          which came to the outcome o
 use Rattle.std.specs.Prelude.{◌≡◌, ℕ, ◌+◌, ◌≤◌, List, [], ◌∷◌, ◌++◌, reverse, length, Some, None, Ok, Err, vec_items, Option, Result}
 use Rattle.std.specs.List.{AllByRecursion}
+use Rattle.std.specs.declared.alloc.AllocFailed.{AllocFailed}
 use Rattle.events.specs.declared.Event.{Event}
 use Rattle.keepers.specs.Meaning.{Meaning}
 use Rattle.order.specs.Judgement.{declined, refused}
@@ -59,6 +60,6 @@ module _ {K : Type 0} (live : K → Type 0) (meaning : K → Meaning) where
     pub says : Sentence bytes p rec came.events (record { recorded_as = came.rec'; findings = fs; end = end; place = q })
 
   -- the run of a file by a monitor; without memory nothing happens
-  abbrev pub RanWhole : List ℕ → Place → Monitor K → Place → Result (Ran K) (Monitor K) → Type 0
+  abbrev pub RanWhole : List ℕ → Place → Monitor K → Place → Result (Ran K) (AllocFailed (Monitor K)) → Type 0
   RanWhole bytes p m q (Ok r) = (rec : List Event) → Stands live meaning rec m → Certified bytes p rec q r.monitor (vec_items r.findings.list) r.end
-  RanWhole bytes p m q (Err m') = (q ≡ p) × (m' ≡ m)
+  RanWhole bytes p m q (Err e) = (q ≡ p) × (e.value ≡ m)

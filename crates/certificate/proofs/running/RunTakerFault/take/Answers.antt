@@ -1,13 +1,10 @@
-use Rattle.std.proofs.Common.{refl}
+use Rattle.std.proofs.Common.{arith}
 use Rattle.certificate.specs.Running.{Took}
 use Rattle.certificate.proofs.running.RunTakerFault.take.Goals as goal
 
-pub returns-in-Ok : goal.returns-in-Ok
+pub returns : goal.returns
 unfolding Took
-returns-in-Ok g c rec stands = c.in-Ok.ensures rec stands
-
-pub returns-in-Err : goal.returns-in-Err
-unfolding Took
-returns-in-Err g c rec stands =
-    let put = c.in-Err.ensures rec stands in
-    ((put.0.0, refl, put.0.1), put.1)
+returns g c rec stands =
+    let h = c.put.ensures rec stands in
+    let k = c.map_err.ensures.cases in
+    (grind (arith, h, k), h.1)
