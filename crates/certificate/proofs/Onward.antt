@@ -42,9 +42,9 @@ module _ {K : Type 0} (live : K → Type 0) (meaning : K → Meaning) where
     -- an event was taken
     pub went : (o : Result (Option Event) Refusal) → HandedAs (Took live meaning) Converts o at stay move s t q (Ok true) → (e : Event) × (o ≡ Ok (Some e)) × Took live meaning s e at (Ok tt) t × (q ≡ move)
     went (Err f) h = absurd h.0
-    went (Ok None) h = absurd (let e = h.0 in let z : ◌≡◌ {A = ℕ} 0 1 = cc in omega arith)
+    went (Ok None) h = absurd (cc h.0)
     went (Ok (Some e)) (Ok x, h, i, j) = (e, refl, h, j)
-    went (Ok (Some e)) (Err y, h, i, j) = absurd (let z : ◌≡◌ {A = ℕ} 0 1 = cc in omega arith)
+    went (Ok (Some e)) (Err y, h, i, j) = absurd (cc)
 
     -- there was none
     pub none_left : (rec : List Event) → Stands live meaning rec s.monitor → (o : Result (Option Event) Refusal) → HandedAs (Took live meaning) Converts o at stay move s t q (Ok false) → Stopped o at stay rec s t q None
@@ -55,8 +55,8 @@ module _ {K : Type 0} (live : K → Type 0) (meaning : K → Meaning) where
       findings = ap (λ x. vec_items x.findings.list) h.1;
       stands = subst (λ x. Stands live meaning rec x.monitor) (sym h.1) stands;
     }
-    none_left rec stands (Ok (Some e)) (Ok x, h, i, j) = absurd (let z : ◌≡◌ {A = ℕ} 0 1 = cc in omega arith)
-    none_left rec stands (Ok (Some e)) (Err y, h, i, j) = absurd (let z : ◌≡◌ {A = ℕ} 0 1 = cc in omega arith)
+    none_left rec stands (Ok (Some e)) (Ok x, h, i, j) = absurd (cc)
+    none_left rec stands (Ok (Some e)) (Err y, h, i, j) = absurd (cc)
 
     halted : (rec : List Event) (e : Event) (y : Fault) → PutAt (vec_items s.findings.list) at (judge rec e) (Err y) (vec_items t.findings.list) × Stands live meaning (recorded rec e (judge rec e)) t.monitor → q ≡ stay → Stopped (Ok (Some e)) at stay rec s t q (Some y)
     halted rec e y put place = record {
@@ -75,8 +75,8 @@ module _ {K : Type 0} (live : K → Type 0) (meaning : K → Meaning) where
       findings = ap (λ x. vec_items x.findings.list) h.1;
       stands = subst (λ x. Stands live meaning rec x.monitor) (sym h.1) stands;
     }
-    failed rec stands y (Ok None) h = absurd (let e = h.0 in let z : ◌≡◌ {A = ℕ} 0 1 = cc in omega arith)
-    failed rec stands y (Ok (Some e)) (Ok x, h, i, j) = absurd (let z : ◌≡◌ {A = ℕ} 0 1 = cc in omega arith)
+    failed rec stands y (Ok None) h = absurd (cc h.0)
+    failed rec stands y (Ok (Some e)) (Ok x, h, i, j) = absurd (cc)
     failed rec stands y (Ok (Some e)) (Err x, h, i, j) =
         let same : x ≡ y = cc in
         halted rec e y (subst (λ z. PutAt (vec_items s.findings.list) at (judge rec e) (Err z) (vec_items t.findings.list) × Stands live meaning (recorded rec e (judge rec e)) t.monitor) same (h rec stands)) j

@@ -39,6 +39,7 @@ impl<K: Keeper> Run<K> {
 impl<K: Keeper> Taker<Fault> for Run<K> {
     ghost took = { λ s e at r t. Took K.live K.meaning s e at r t };
 
+    #[tactic(auto, unfolding(crate::specs::Running::Took))]
     fn take(&mut self, event: Event, at: Site) -> Result<(), Fault> {
         self.put(event, at.event)
             .map_err(|cause| Fault { cause, at })
