@@ -2,8 +2,9 @@
 #![tactic(auto)]
 
 mod places;
+mod words;
 
-pub use places::PlaceSet;
+pub use places::{PlaceSet, Places};
 
 // One step of one thread. Numbers are as recorded; which of them are in range is the monitor's business.
 #[derive(Clone, Copy, PartialEq, Eq, Debug)]

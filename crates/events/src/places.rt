@@ -1,6 +1,7 @@
 // Sets of places, as a transaction has two of them.
-ghost use Rattle.std.specs.Prelude.{◌≡◌};
-ghost use Rattle.events.specs.Places.{member, NextPlace};
+ghost use Rattle.std.specs.Prelude.{◌≡◌, bit_or};
+ghost use Rattle.std.specs.Iterator.{YieldsFirst, item_count};
+ghost use Rattle.events.specs.Places.{member, NextPlace, with_place, places_left};
 
 // Bit p stands for place p, and there are 64 places.
 #[derive(Clone, Copy, PartialEq, Eq, Debug)]
@@ -26,15 +27,74 @@ impl PlaceSet {
         place < 64 && (self.word >> place) % 2 == 1
     }
 
-    // The lowest place of the set from `from` on, if there is one: a loop over a set's places takes
-    // as many turns as it has places.
+    // Puts the place into the set; one of 64 or more changes nothing.
+    pub fn insert(&mut self, place: u8)
+        ensures { self.new ≡ with_place self.old place }
+    {
+        if place < 64 {
+            self.word |= 1 << place;
+        }
+    }
+
+    // The places of either set.
+    pub fn union(self, other: PlaceSet) -> PlaceSet
+        ensures { result.word ≡ bit_or self.word other.word }
+    {
+        PlaceSet {
+            word: self.word | other.word,
+        }
+    }
+
+    // The lowest place of the set from `from` on, if there is one.
     pub fn next(self, from: u8) -> Option<u8>
         ensures { NextPlace self.word from result }
     {
-        if from >= 64 {
+        let rest = self.word.checked_shr(u32::from(from))?;
+        if rest == 0 {
             return None;
         }
-        let place = from + (self.word >> from).trailing_zeros() as u8;
-        if place < 64 { Some(place) } else { None }
+        Some(from + rest.trailing_zeros() as u8)
+    }
+
+    // The places of the set, lowest first.
+    pub fn iter(self) -> Places
+        ensures { result.set ≡ self }
+    {
+        Places { set: self }
+    }
+}
+
+impl IntoIterator for PlaceSet {
+    type Item = u8;
+
+    type IntoIter = Places;
+
+    ghost into_iter_gives = { λ s i. i.set ≡ s };
+
+    fn into_iter(self) -> Places {
+        self.iter()
+    }
+}
+
+// The places of a set that are still to come, lowest first: it takes as many turns as there are places.
+#[derive(Clone, Debug, Drop)]
+pub struct Places {
+    set: PlaceSet,
+}
+
+impl Iterator for Places {
+    type Item = u8;
+
+    ghost next_gives = { YieldsFirst places_left };
+
+    ghost remaining = { item_count places_left };
+
+    fn next(&mut self) -> Option<u8> {
+        let word = self.set.word;
+        if word == 0 {
+            return None;
+        }
+        self.set.word = word & (word - 1);
+        Some(word.trailing_zeros() as u8)
     }
 }

@@ -5,7 +5,7 @@ use Rattle.events.specs.declared.Event.{Event}
 use Rattle.keepers.specs.Meaning.{Meaning}
 use Rattle.order.specs.Conflicts.{RaceFree}
 use Rattle.order.specs.Examples.{answers, examples}
-use Rattle.order.specs.Judgement.{judge, recorded}
+use Rattle.order.specs.Judgement.{recorded}
 use Rattle.order.proofs.Examples.{as_worked}
 use Rattle.order.proofs.Judgement.{right_at}
 use Rattle.order.proofs.Rearrangements.{own_order, same_reads}
@@ -18,13 +18,15 @@ use Rattle.monitor.specs.declared.session.Reply.{Reply}
 use Rattle.monitor.specs.declared.session.Reply.TheVariants.{Judged, Counted, Shown}
 use Rattle.monitor.specs.declared.verdict.Verdict.{Verdict}
 use Rattle.monitor.specs.Answers.{told}
+use Rattle.monitor.specs.Offers.{Judges}
 use Rattle.monitor.specs.Stands.{Stands}
 use Rattle.monitor.specs.Promise.{RightVerdict, RightReply, after, record_after, Sound, Promise, told_replies, AnsweredAs}
 
--- the judgement's verdict is right
-pub verdict_right : {K : Type 0} (live : K → Type 0) (meaning : K → Meaning) (rec : List Event) (m : Monitor K) (e : Event) (v : Verdict) → Stands live meaning rec m → told v ≡ judge rec e → RightVerdict rec e v
-verdict_right live meaning rec m e v stands h =
-    record { judged = h; right = right_at rec e stands.lawful stands.free (told v) (sym h) }
+-- an offered event's verdict is right, and the monitor stands for what is recorded
+pub offered_right : {K : Type 0} {live : K → Type 0} {meaning : K → Meaning} {m m' : Monitor K} (e : Event) (v : Verdict) → Judges live meaning m e v m' → (rec : List Event) → Stands live meaning rec m → RightVerdict rec e v × Stands live meaning (recorded rec e (told v)) m'
+offered_right e v judges rec stands =
+    let answer = judges rec stands in
+    (record { judged = answer.0; right = right_at rec e stands.lawful stands.free (told v) (sym answer.0) }, answer.1)
 
 -- a race-free record is sound
 sound : (rec : List Event) → RaceFree rec → Sound rec

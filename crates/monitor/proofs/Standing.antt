@@ -1,13 +1,13 @@
 -- A monitor stands for the empty record at first, judges by what it holds, and stands for what it accepts. Assumes nothing.
-use Rattle.std.proofs.Common.{◌≡◌, ℕ, ◌+◌, ◌*◌, ◌<◌, ◌≤◌, false, cond, ◌&&◌, ◌||◌, ltb, leb, List, [], ◌∷◌, length, Some, None, Ok, Option, Result, sym, ap, ◌∙◌, subst, arith}
+use Rattle.std.proofs.Common.{◌≡◌, ℕ, ◌+◌, ◌*◌, ◌<◌, ◌≤◌, false, cond, ◌&&◌, ◌||◌, ltb, leb, List, [], ◌∷◌, length, None, Ok, Err, Option, Result, sym, ap, ◌∙◌, subst, arith}
 use mathlib.Core.Path.{fun_ext}
 use Rattle.std.proofs.lemmas.Bool.{leb-false, lt-ltb, lt-leb, and_from, or_from, cond-true, cond-false}
 use Rattle.events.specs.declared.Event.{Event}
 use Rattle.keepers.specs.Meaning.{Meaning, cleared}
 use Rattle.keepers.proofs.Laws.{sets_cleared, passes_cleared}
 use Rattle.order.specs.Cells.{Cell, cell_race, cell_verdict}
-use Rattle.order.specs.Faults.{fault, faults, record_full}
-use Rattle.order.specs.Judgement.{accepted, refused, declined, Finding, judge, ruled}
+use Rattle.order.specs.Faults.{faults, record_full}
+use Rattle.order.specs.Judgement.{accepted, refused, Finding, judge, ruled}
 use Rattle.order.specs.Questions as questions
 use Rattle.order.specs.Questions.{cell_told}
 use Rattle.order.proofs.Questions.{told_by_cell}
@@ -59,18 +59,19 @@ not_full : (rec : List Event) (e : Event) → NoFault rec e → length rec < 100
 unfolding faults record_full
 not_full rec e none = leb-false 1000000 (length rec) (none 9)
 
-module _ {K : Type 0} (live : K → Type 0) (meaning : K → Meaning) (rec : List Event) (m : Monitor K) (stands : Stands live meaning rec m) (e : Event) where
-  by_cells : fault rec e ≡ None → judge rec e ≡ cell_verdict (length rec) (cell_race e (serial_at m.slots.serials) (set_at (meaning m.slots.keeper)))
-  by_cells none =
+module _ {K : Type 0} {live : K → Type 0} {meaning : K → Meaning} {rec : List Event} {m : Monitor K} (stands : Stands live meaning rec m) (e : Event) where
+  -- the refusal that the roster tells is the judgement's
+  pub judged_refused : (f : RuleFault) → numbered (Err f) ≡ roster_refused m.roster m.accepted e → judge rec e ≡ refused (fault_number f)
+  judged_refused f h = judge_refused rec e (fault_number f) (sym (rule_tells rec m.roster m.accepted e (Err f) stands.roster stands.counts h))
+
+  -- where it tells none, the judgement's answer is by the race that the cells have, or that they have none
+  pub judged_by_cells : numbered (Ok tt) ≡ roster_refused m.roster m.accepted e → (o : Option Finding) → (live m.slots.keeper → InBounds e → o ≡ cell_race e (serial_at m.slots.serials) (set_at (meaning m.slots.keeper))) → judge rec e ≡ cell_verdict (length rec) o
+  judged_by_cells h o race =
+      let none = sym (rule_tells rec m.roster m.accepted e (Ok tt) stands.roster stands.counts h) in
+      let bounds = in_bounds rec e ((no_fault_iff rec e).0 none) in
       judge_by_cells rec e stands.free (serial_at m.slots.serials) (set_at (meaning m.slots.keeper)) stands.cells
       ∙ ap (λ o. ruled o (cell_verdict (length rec) (cell_race e (serial_at m.slots.serials) (set_at (meaning m.slots.keeper))))) none
-
-  -- no race is found by the cells, or one is
-  pub judged_free : fault rec e ≡ None → cell_race e (serial_at m.slots.serials) (set_at (meaning m.slots.keeper)) ≡ None → judge rec e ≡ accepted (length rec + 1)
-  judged_free none free = by_cells none ∙ ap (cell_verdict (length rec)) free
-
-  pub judged_racing : (f : Finding) → fault rec e ≡ None → cell_race e (serial_at m.slots.serials) (set_at (meaning m.slots.keeper)) ≡ Some f → judge rec e ≡ declined f.place f.witness
-  judged_racing f none found = by_cells none ∙ ap (cell_verdict (length rec)) found
+      ∙ ap (cell_verdict (length rec)) (sym (race stands.lives bounds))
 
   -- what accepting the event makes of the monitor stands for the longer record
   pub stands_more : (m' : Monitor K) (serial : ℕ) → judge rec e ≡ accepted serial → m'.accepted ≡ serial → Noted m.roster e m'.roster → live m'.slots.keeper → meaning m'.slots.keeper ≡ made (calls e) (meaning m.slots.keeper) → Numbered m.slots.serials m'.slots.serials (λ p k n. changed e p k serial 0 n) → Stands live meaning (e ∷ rec) m'
@@ -100,19 +101,9 @@ module _ {K : Type 0} (live : K → Type 0) (meaning : K → Meaning) (rec : Lis
         free = accepted_free rec e stands.lawful stands.free serial took;
       }
 
-  -- the refusal that the roster tells is the judgement's
-  pub judged_refused : (f : RuleFault) → numbered (Some f) ≡ roster_refused m.roster m.accepted e → judge rec e ≡ refused (fault_number f)
-  judged_refused f h = judge_refused rec e (fault_number f) (sym (rule_tells rec m.roster m.accepted e (Some f) stands.roster stands.counts h))
-
-  pub no_fault : numbered None ≡ roster_refused m.roster m.accepted e → fault rec e ≡ None
-  no_fault h = sym (rule_tells rec m.roster m.accepted e None stands.roster stands.counts h)
-
-  pub bounded : fault rec e ≡ None → InBounds e
-  bounded none = in_bounds rec e ((no_fault_iff rec e).0 none)
-
 -- what the slots tell answers the question
-pub asked_told : {K : Type 0} (live : K → Type 0) (meaning : K → Meaning) (rec : List Event) (m : Monitor K) → Stands live meaning rec m → (p t slot : ℕ) (a : Access) (o : Option Told) → slot ≡ slot_of a → no_reader a ≡ false → p < 64 → slot < 9 → t < 8 → told_as o ≡ cond (ltb p 64 && (ltb slot 9 && ltb t 8)) (cell_told (serial_at m.slots.serials p slot) (set_at (meaning m.slots.keeper) p slot) t) None → ◌≡◌ {A = Result (Option questions.Told) ℕ} (Ok (told_as o)) (asked rec p a t)
-asked_told live meaning rec m stands p t slot a o is reader place in-slot thread told =
+pub asked_told : {K : Type 0} {live : K → Type 0} {meaning : K → Meaning} {rec : List Event} {m : Monitor K} → Stands live meaning rec m → (p t slot : ℕ) (a : Access) (o : Option Told) → slot ≡ slot_of a → no_reader a ≡ false → p < 64 → slot < 9 → t < 8 → told_as o ≡ cond (ltb p 64 && (ltb slot 9 && ltb t 8)) (cell_told (serial_at m.slots.serials p slot) (set_at (meaning m.slots.keeper) p slot) t) None → ◌≡◌ {A = Result (Option questions.Told) ℕ} (Ok (told_as o)) (asked rec p a t)
+asked_told {K} {live} {meaning} {rec} {m} stands p t slot a o is reader place in-slot thread told =
     let range = and_from (ltb p 64) (ltb slot 9 && ltb t 8) (lt-ltb p 64 place) (and_from (ltb slot 9) (ltb t 8) (lt-ltb slot 9 in-slot) (lt-ltb t 8 thread)) in
     let cell = stands.cells p slot place in-slot in
     let answer = told ∙ cond-true (ltb p 64 && (ltb slot 9 && ltb t 8)) _ _ range ∙ sym (told_by_cell rec p slot _ _ cell t thread) ∙ ap (λ k. questions.slot_told rec p k t) is in

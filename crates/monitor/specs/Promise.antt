@@ -29,7 +29,7 @@ abbrev pub after : List Event → Call → Reply → List Event
 after rec (Offer e) r = after_event rec e r
 after rec (Commit s) r = after_event rec (commit_of s) r
 after rec Count r = rec
-after rec (Ask p a t) r = rec
+after rec (Ask q) r = rec
 
 unfoldable pub record_after : List Event → List Call → List Reply → List Event
 record_after rec [] rs = rec
@@ -52,9 +52,9 @@ RightReply rec (Commit s) (Shown x) = ⊥
 RightReply rec Count (Counted n) = n ≡ length rec
 RightReply rec Count (Judged v) = ⊥
 RightReply rec Count (Shown x) = ⊥
-RightReply rec (Ask p a t) (Shown x) = told_of x ≡ asked rec p a t
-RightReply rec (Ask p a t) (Judged v) = ⊥
-RightReply rec (Ask p a t) (Counted n) = ⊥
+RightReply rec (Ask q) (Shown x) = told_of x ≡ asked rec q.place q.access q.thread
+RightReply rec (Ask q) (Judged v) = ⊥
+RightReply rec (Ask q) (Counted n) = ⊥
 
 pub record Sound (rec : List Event) : Type 0 where
   -- of any two conflicting accesses one is ordered before the other

@@ -1,18 +1,14 @@
 -- Slips: what opening and adding make of them, and the event that committing one offers. Assumes nothing.
-use Rattle.std.specs.Prelude.{ℕ, ◌^◌, cond, Ok, Err, Result, bit_or, nat_lt}
+use Rattle.std.specs.Prelude.{ℕ, cond, Ok, Err, Result, nat_lt}
 use Rattle.events.specs.declared.Event.{Event}
 use Rattle.events.specs.declared.Action.TheVariants.{Commit}
-use Rattle.events.specs.declared.places.PlaceSet.{PlaceSet}
+use Rattle.events.specs.Places.{with_place}
 use Rattle.roster.specs.declared.fault.RuleFault.{RuleFault}
 use Rattle.roster.specs.declared.fault.RuleFault.TheVariants.{NoSuchThing}
 use Rattle.monitor.specs.declared.slip.Slip.{Slip}
 
 abbrev pub opened : ℕ → Slip
 opened t = record { thread = t; reads = record { word = 0 }; writes = record { word = 0 } }
-
--- a set with the place p; there is no place of 64 or more
-abbrev pub with_place : PlaceSet → ℕ → PlaceSet
-with_place s p = cond (nat_lt p 64) (record { word = bit_or s.word (2 ^ p) }) s
 
 abbrev pub with_read : Slip → ℕ → Slip
 with_read s p = record { thread = s.thread; reads = with_place s.reads p; writes = s.writes }

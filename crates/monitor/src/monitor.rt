@@ -2,6 +2,7 @@
 use roster::Roster;
 use slots::Slots;
 
+// Clauses take the record and that the monitor stands for it as a premise: a ghost field may hold a fact, but no record.
 #[derive(Drop)]
 pub struct Monitor<K> {
     pub(crate) accepted: u32,

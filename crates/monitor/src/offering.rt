@@ -1,15 +1,16 @@
 // Starting a monitor, offering it events, and the questions.
-ghost use Rattle.std.specs.Prelude.{◌≡◌, ℕ, ◌+◌, ◌<◌, ◌≤◌, List, [], ◌∷◌, length};
+ghost use Rattle.std.specs.Prelude.{◌≡◌, List, [], ◌∷◌, length};
 ghost use Rattle.events.specs.declared.Event.{Event as AnEvent};
-ghost use Rattle.order.specs.Judgement.{judge, recorded};
+ghost use Rattle.order.specs.Judgement.{judge};
 ghost use Rattle.order.specs.Judgement.{accepted as accepted_as};
 ghost use Rattle.order.specs.Work.{calls};
 ghost use Rattle.slots.specs.Made.{made};
-ghost use Rattle.monitor.specs.Answers.{told, asked, told_of, UnlessAccepted, WhenAccepted};
+ghost use Rattle.monitor.specs.Answers.{told, asked, told_of, UnlessAccepted};
+ghost use Rattle.monitor.specs.Offers.{Judges, Works};
 ghost use Rattle.monitor.specs.Stands.{Stands};
 
 use crate::monitor::Monitor;
-use crate::verdict::{Access, Verdict};
+use crate::verdict::{Question, Verdict};
 use events::Event;
 use keepers::Keeper;
 use roster::{Roster, RuleFault};
@@ -31,7 +32,7 @@ impl<K: Keeper> Monitor<K> {
     fn check(&self, event: Event) -> Verdict
         ensures { (rec : List AnEvent) → Stands K.live K.meaning rec self.now → told result ≡ judge rec event }
     {
-        if let Some(fault) = self.roster.rule(self.accepted, event) {
+        if let Err(fault) = self.roster.rule(self.accepted, event) {
             return Verdict::Refused { fault };
         }
         match self.slots.race(event) {
@@ -57,8 +58,8 @@ impl<K: Keeper> Monitor<K> {
 
     // Offers an event. Only an accepted one changes anything.
     pub fn offer(&mut self, event: Event) -> Verdict
-        ensures answer { (rec : List AnEvent) → Stands K.live K.meaning rec self.old → (told result ≡ judge rec event) × Stands K.live K.meaning (recorded rec event (told result)) self.new }
-        ensures keeper { K.live self.old.slots.keeper → WhenAccepted result (K.meaning self.new.slots.keeper ≡ made (calls event) (K.meaning self.old.slots.keeper)) }
+        ensures answer { Judges K.live K.meaning self.old event result self.new }
+        ensures keeper { Works K.live K.meaning self.old event result self.new }
         ensures unchanged { UnlessAccepted result (self.new ≡ self.old) }
     {
         let verdict = self.check(event);
@@ -87,16 +88,16 @@ impl<K: Keeper> Monitor<K> {
         self.accepted
     }
 
-    // Whether a place's latest write, or a thread's latest read of it, is there; and then its serial, and whether it has
-    // reached the thread.
-    pub fn ask(&self, place: u8, access: Access, thread: u8) -> Result<Option<Told>, RuleFault>
-        ensures { (rec : List AnEvent) → Stands K.live K.meaning rec self.now → told_of result ≡ asked rec place access thread }
+    // Whether the access that is asked about is there; and then its serial, and whether it has reached the thread.
+    pub fn ask(&self, question: Question) -> Result<Option<Told>, RuleFault>
+        ensures { (rec : List AnEvent) → Stands K.live K.meaning rec self.now → told_of result ≡ asked rec question.place question.access question.thread }
     {
-        let slot = match access {
-            Access::Write => 0,
-            Access::Read { thread: reader } if reader < 8 => reader + 1,
-            Access::Read { thread: _ } => return Err(RuleFault::NoSuchThread),
-        };
+        let Question {
+            place,
+            access,
+            thread,
+        } = question;
+        let slot = access.slot()?;
         if thread >= 8 {
             return Err(RuleFault::NoSuchThread);
         }

@@ -1,5 +1,5 @@
 // A whole list of calls on a new monitor, answered one after another.
-ghost use Rattle.std.specs.Prelude.{◌≡◌, List, [], IfOk};
+ghost use Rattle.std.specs.Prelude.{◌≡◌, List, [], ◌∷◌, ◌++◌, IfOk, OnOk, OnErr};
 ghost use Rattle.events.specs.declared.Event.{Event as AnEvent};
 ghost use Rattle.std.specs.List.{AllByRecursion};
 ghost use Rattle.order.specs.Examples.{examples};
@@ -8,12 +8,12 @@ ghost use Rattle.monitor.specs.Stands.{Stands};
 
 use crate::monitor::Monitor;
 use crate::slip::Slip;
-use crate::verdict::{Access, Verdict};
+use crate::verdict::{Question, Verdict};
 use events::Event;
 use keepers::Keeper;
 use roster::RuleFault;
 use slots::Told;
-use std::alloc::Global;
+use std::alloc::{AllocError, Global};
 use std::collections::VecDeque;
 
 // What can be asked of a monitor. A slip to commit is a real one, so a call is spent too.
@@ -21,11 +21,7 @@ pub enum Call {
     Offer(Event),
     Commit(Slip),
     Count,
-    Ask {
-        place: u8,
-        access: Access,
-        thread: u8,
-    },
+    Ask(Question),
 }
 
 // The answer to a call.
@@ -51,32 +47,35 @@ fn answer<K: Keeper>(monitor: &mut Monitor<K>, call: Call) -> Reply
         Call::Offer(event) => Reply::Judged(monitor.offer(event)),
         Call::Commit(slip) => Reply::Judged(slip.commit(monitor)),
         Call::Count => Reply::Counted(monitor.accepted()),
-        Call::Ask {
-            place,
-            access,
-            thread,
-        } => Reply::Shown(monitor.ask(place, access, thread)),
+        Call::Ask(question) => Reply::Shown(monitor.ask(question)),
     }
 }
 
-// Lets a call go that is not made.
-fn let_go(call: Call) {
-    match call {
-        Call::Commit(slip) => slip.abandon(),
-        Call::Offer(_) => {}
-        Call::Count => {}
-        Call::Ask {
-            place: _,
-            access: _,
-            thread: _,
-        } => {}
+impl Call {
+    // Puts the call after those that wait. Where there is no memory for that, it is let go.
+    pub fn queue(self, calls: &mut VecDeque<Call>) -> Result<(), AllocError>
+        ensures ok { OnOk result (calls.new.items ≡ calls.old.items ++ self ∷ []) }
+        ensures err { OnErr result (calls.new.items ≡ calls.old.items) }
+    {
+        calls.push_back(self).map_err(|back| {
+            back.value.abandon();
+            AllocError
+        })
+    }
+
+    // Lets a call go that is not made.
+    fn abandon(self) {
+        match self {
+            Call::Commit(slip) => slip.abandon(),
+            Call::Offer(_) | Call::Count | Call::Ask(_) => {}
+        }
     }
 }
 
-// Lets all calls go.
-fn let_all_go(mut calls: VecDeque<Call>) {
+// Lets all calls go. A call has no `Drop`, since a slip has none, so the queue is emptied call by call.
+pub fn abandon_all(mut calls: VecDeque<Call>) {
     while let Some(call) = calls.pop_front() {
-        let_go(call);
+        call.abandon();
     }
     calls.destroy_empty();
 }
@@ -92,12 +91,9 @@ pub fn answer_all<K: Keeper>(
     ensures stands { IfOk result (λ s. Stands K.live K.meaning (record_after [] calls.items s.replies.items) s.monitor) }
     ensures examples { IfOk result (λ s. AllByRecursion (AnsweredAs calls.items s.replies.items) examples) }
 {
-    let mut replies = match Vec::with_capacity(heap, calls.len()) {
-        Ok(replies) => replies,
-        Err(_) => {
-            let_all_go(calls);
-            return Err(keeper);
-        }
+    let Ok(mut replies) = Vec::with_capacity(heap, calls.len()) else {
+        abandon_all(calls);
+        return Err(keeper);
     };
     let mut monitor = Monitor::start(keeper);
     while let Some(call) = calls.pop_front() {

@@ -1,12 +1,9 @@
 // A slip gathers a transaction. It has no `Drop`: an open one must be committed or abandoned.
-ghost use Rattle.std.specs.Prelude.{◌≡◌, List};
-ghost use Rattle.events.specs.declared.Event.{Event as AnEvent};
-ghost use Rattle.order.specs.Judgement.{judge, recorded};
-ghost use Rattle.order.specs.Work.{calls};
-ghost use Rattle.slots.specs.Made.{made};
-ghost use Rattle.monitor.specs.Answers.{told, UnlessAccepted, WhenAccepted};
+ghost use Rattle.std.specs.Prelude.{◌≡◌};
+ghost use Rattle.events.specs.Places.{with_place};
+ghost use Rattle.monitor.specs.Answers.{UnlessAccepted};
+ghost use Rattle.monitor.specs.Offers.{Judges, Works};
 ghost use Rattle.monitor.specs.Slips.{opened, with_read, with_write, add_answer, commit_of};
-ghost use Rattle.monitor.specs.Stands.{Stands};
 
 use crate::monitor::Monitor;
 use crate::verdict::Verdict;
@@ -18,6 +15,18 @@ pub struct Slip {
     thread: u8,
     reads: PlaceSet,
     writes: PlaceSet,
+}
+
+// Adds a place to one of the sets.
+fn add(set: &mut PlaceSet, place: u8) -> Result<(), RuleFault>
+    ensures answer { result ≡ add_answer place }
+    ensures set { set.new ≡ with_place set.old place }
+{
+    if place >= 64 {
+        return Err(RuleFault::NoSuchThing);
+    }
+    set.insert(place);
+    Ok(())
 }
 
 impl Slip {
@@ -37,11 +46,7 @@ impl Slip {
         ensures answer { result ≡ add_answer place }
         ensures slip { self.new ≡ with_read self.old place }
     {
-        if place >= 64 {
-            return Err(RuleFault::NoSuchThing);
-        }
-        self.reads.word |= 1 << place;
-        Ok(())
+        add(&mut self.reads, place)
     }
 
     // Adds a place to the write set.
@@ -49,11 +54,7 @@ impl Slip {
         ensures answer { result ≡ add_answer place }
         ensures slip { self.new ≡ with_write self.old place }
     {
-        if place >= 64 {
-            return Err(RuleFault::NoSuchThing);
-        }
-        self.writes.word |= 1 << place;
-        Ok(())
+        add(&mut self.writes, place)
     }
 
     // Lets the transaction go.
@@ -67,8 +68,8 @@ impl Slip {
 
     // Offers the transaction's commit; the slip is spent, whatever the answer.
     pub fn commit<K: Keeper>(self, monitor: &mut Monitor<K>) -> Verdict
-        ensures answer { (rec : List AnEvent) → Stands K.live K.meaning rec monitor.old → (told result ≡ judge rec (commit_of self)) × Stands K.live K.meaning (recorded rec (commit_of self) (told result)) monitor.new }
-        ensures keeper { K.live monitor.old.slots.keeper → WhenAccepted result (K.meaning monitor.new.slots.keeper ≡ made (calls (commit_of self)) (K.meaning monitor.old.slots.keeper)) }
+        ensures answer { Judges K.live K.meaning monitor.old (commit_of self) result monitor.new }
+        ensures keeper { Works K.live K.meaning monitor.old (commit_of self) result monitor.new }
         ensures unchanged { UnlessAccepted result (monitor.new ≡ monitor.old) }
     {
         let Slip {

@@ -1,10 +1,11 @@
 // What is asked of the monitor beside events, and what it answers.
-ghost use Rattle.std.specs.Prelude.{◌≡◌};
-ghost use Rattle.monitor.specs.Answers.{number};
+ghost use Rattle.std.specs.Prelude.{◌≡◌, ◌<◌, true, false, MatchResult};
+ghost use Rattle.monitor.specs.Answers.{number, slot_of, no_reader};
 
 use roster::RuleFault;
 
-// The answer to an offered event.
+// The answer to an offered event. It is of three kinds: a refusal broke a rule and a decline would race, so neither
+// `Option` nor `Result` says it.
 #[derive(Clone, Copy, PartialEq, Eq, Debug)]
 pub enum Verdict {
     Accepted { serial: u32 },
@@ -18,19 +19,37 @@ impl Verdict {
         ensures { result ≡ number self }
     {
         match self {
-            Verdict::Accepted { serial: _ } => None,
+            Verdict::Accepted { .. } => None,
             Verdict::Refused { fault } => Some(fault.number()),
-            Verdict::Declined {
-                place: _,
-                witness: _,
-            } => Some(10),
+            Verdict::Declined { .. } => Some(10),
         }
     }
 }
 
 // The access of a place that a question is about: its latest write, or a thread's latest read since.
-#[derive(Clone, Copy)]
+#[derive(Clone, Copy, PartialEq, Eq, Debug)]
 pub enum Access {
     Write,
     Read { thread: u8 },
+}
+
+impl Access {
+    // The slot of a place that has the access.
+    pub(crate) fn slot(self) -> Result<u8, RuleFault>
+        ensures { MatchResult result (λ slot. (no_reader self ≡ false) × (slot ≡ slot_of self) × (slot < 9)) (λ fault. (no_reader self ≡ true) × (fault ≡ RuleFault.NoSuchThread)) }
+    {
+        match self {
+            Access::Write => Ok(0),
+            Access::Read { thread } if thread < 8 => Ok(thread + 1),
+            Access::Read { .. } => Err(RuleFault::NoSuchThread),
+        }
+    }
+}
+
+// Whether a place's access is there, and then its serial, and whether it has reached the thread.
+#[derive(Clone, Copy, PartialEq, Eq, Debug)]
+pub struct Question {
+    pub place: u8,
+    pub access: Access,
+    pub thread: u8,
 }

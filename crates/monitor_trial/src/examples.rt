@@ -1,5 +1,6 @@
 // Ten short runs, each after thread 0 has forked thread 1, over every pile of keepers.
-use crate::words::verdict_words;
+use crate::common::FORK;
+use crate::words::Words;
 use clocks::Clocks;
 use events::{Action, Event, PlaceSet};
 use keepers::Keeper;
@@ -7,11 +8,6 @@ use locksets::Locksets;
 use monitor::{Monitor, Verdict};
 use shortcut::ShortCut;
 use std::alloc::{AllocError, Global};
-
-const FORK: Event = Event {
-    thread: 0,
-    action: Action::Fork { child: 1 },
-};
 
 // The set of place 5 alone.
 const FIVE: PlaceSet = PlaceSet { word: 32 };
@@ -101,51 +97,42 @@ fn answers<K: Keeper + Drop>(
     let mut monitor = Monitor::start(keeper);
     let mut told = Vec::new(heap);
     told.push(monitor.offer(FORK))?;
-    for (thread, action) in run {
-        let event = Event {
-            thread: *thread,
-            action: *action,
-        };
-        told.push(monitor.offer(event))?;
+    for &(thread, action) in run {
+        told.push(monitor.offer(Event { thread, action }))?;
     }
     Ok(told)
-}
-
-// The last answer in words.
-fn last(heap: Global, told: &[Verdict]) -> Result<String, AllocError> {
-    match told.last() {
-        Some(verdict) => verdict_words(heap, *verdict),
-        None => format!(in heap; "nothing"),
-    }
 }
 
 // One line where all answers of all piles are the same, otherwise the last answer of each.
 fn compare(rt: &HostRuntime, number: u8, run: &[(u8, Action)]) -> anyhow::Result<()> {
     let heap = rt.alloc();
-    let first = answers(heap, Locksets::new(), run)?;
-    let second = answers(heap, Clocks::new(), run)?;
-    let third = answers(heap, ShortCut::new(Locksets::new()), run)?;
-    let fourth = answers(heap, ShortCut::new(Clocks::new()), run)?;
-    let told = last(heap, first.as_slice())?;
-    if first == second && first == third && first == fourth {
-        println!(rt; "example {number}: {told}, the same over all four piles")?;
+    let piles = [
+        ("locksets", answers(heap, Locksets::new(), run)?),
+        ("clocks", answers(heap, Clocks::new(), run)?),
+        (
+            "the short cut over locksets",
+            answers(heap, ShortCut::new(Locksets::new()), run)?,
+        ),
+        (
+            "the short cut over clocks",
+            answers(heap, ShortCut::new(Clocks::new()), run)?,
+        ),
+    ];
+    let [(_, first), ..] = &piles;
+    if piles.iter().all(|(_, told)| told == first) {
+        let last = Words(first.last());
+        println!(rt; "example {number}: {last}, the same over all four piles")?;
         return Ok(());
     }
-    println!(rt; "example {number} over locksets: {told}")?;
-    let told = last(heap, second.as_slice())?;
-    println!(rt; "example {number} over clocks: {told}")?;
-    let told = last(heap, third.as_slice())?;
-    println!(rt; "example {number} over the short cut over locksets: {told}")?;
-    let told = last(heap, fourth.as_slice())?;
-    println!(rt; "example {number} over the short cut over clocks: {told}")?;
+    for (pile, told) in &piles {
+        println!(rt; "example {number} over {pile}: {}", Words(told.last()))?;
+    }
     Ok(())
 }
 
 pub(crate) fn compare_all(rt: &HostRuntime) -> anyhow::Result<()> {
-    let mut number = 1u8;
-    for run in &RUNS {
+    for (number, run) in (1..).zip(&RUNS) {
         compare(rt, number, run)?;
-        number = number.saturating_add(1);
     }
     Ok(())
 }

@@ -1,6 +1,7 @@
 // The worked examples over every pile of keepers, the limits and refusals, and a full record, one check to a line.
 #![tactic(auto)]
 
+mod common;
 mod examples;
 mod faults;
 mod full;
@@ -11,18 +12,14 @@ mod words;
 use clocks::Clocks;
 use events::{Action, Event};
 use monitor::Monitor;
-use words::verdict_words;
+use words::Words;
 
 // Offers events to a new monitor, each with a name, one to a line.
 fn offer_all(rt: &HostRuntime, named: &[(&str, u8, Action)]) -> anyhow::Result<()> {
     let mut monitor = Monitor::start(Clocks::new());
-    for (name, thread, action) in named {
-        let event = Event {
-            thread: *thread,
-            action: *action,
-        };
-        let told = verdict_words(rt.alloc(), monitor.offer(event))?;
-        println!(rt; "{name}: {told}")?;
+    for &(name, thread, action) in named {
+        let told = monitor.offer(Event { thread, action });
+        println!(rt; "{name}: {}", Words(told))?;
     }
     Ok(())
 }

@@ -1,47 +1,81 @@
 // Answers in words.
-use monitor::Verdict;
+use monitor::{Access, Question, Verdict};
 use roster::RuleFault;
 use slots::Told;
-use std::alloc::{AllocError, Global};
+use std::fmt;
 
-fn refused(heap: Global, fault: RuleFault) -> Result<String, AllocError> {
-    let why = fault.number();
-    format!(in heap; "refused {why}")
+// What is printed of a question or an answer.
+#[derive(Drop)]
+pub(crate) struct Words<T>(pub(crate) T);
+
+impl fmt::Display for Words<RuleFault> {
+    fn fmt<W: fmt::Write>(&self, f: &mut fmt::Formatter<W>) -> fmt::Result {
+        write!(f, "refused {}", self.0.number())
+    }
 }
 
-// The answer to an event.
-pub(crate) fn verdict_words(heap: Global, verdict: Verdict) -> Result<String, AllocError> {
-    match verdict {
-        Verdict::Accepted { serial } => format!(in heap; "serial {serial}"),
-        Verdict::Refused { fault } => refused(heap, fault),
-        Verdict::Declined { place, witness } => {
-            format!(in heap; "declined place {place} witness {witness}")
+// The last answer of a run.
+impl fmt::Display for Words<Option<&Verdict>> {
+    fn fmt<W: fmt::Write>(&self, f: &mut fmt::Formatter<W>) -> fmt::Result {
+        match self.0 {
+            Some(verdict) => write!(f, "{}", Words(*verdict)),
+            None => write!(f, "nothing"),
         }
     }
 }
 
-// The answer to a question about a slot.
-pub(crate) fn told_words(
-    heap: Global,
-    told: Result<Option<Told>, RuleFault>,
-) -> Result<String, AllocError> {
-    match told {
-        Ok(Some(Told { serial, reached })) => {
-            let word = if reached { "yes" } else { "no" };
-            format!(in heap; "serial {serial} reached {word}")
+// The answer to an event.
+impl fmt::Display for Words<Verdict> {
+    fn fmt<W: fmt::Write>(&self, f: &mut fmt::Formatter<W>) -> fmt::Result {
+        match self.0 {
+            Verdict::Accepted { serial } => write!(f, "serial {serial}"),
+            Verdict::Refused { fault } => write!(f, "{}", Words(fault)),
+            Verdict::Declined { place, witness } => {
+                write!(f, "declined place {place} witness {witness}")
+            }
         }
-        Ok(None) => format!(in heap; "empty"),
-        Err(fault) => refused(heap, fault),
+    }
+}
+
+impl fmt::Display for Words<Question> {
+    fn fmt<W: fmt::Write>(&self, f: &mut fmt::Formatter<W>) -> fmt::Result {
+        let Question {
+            place,
+            access,
+            thread,
+        } = self.0;
+        match access {
+            Access::Write => write!(f, "write of place {place} for thread {thread}"),
+            Access::Read { thread: reader } => {
+                write!(
+                    f,
+                    "read of place {place} by thread {reader} for thread {thread}"
+                )
+            }
+        }
+    }
+}
+
+// The answer to a question.
+impl fmt::Display for Words<Result<Option<Told>, RuleFault>> {
+    fn fmt<W: fmt::Write>(&self, f: &mut fmt::Formatter<W>) -> fmt::Result {
+        match self.0 {
+            Ok(Some(Told { serial, reached })) => {
+                let word = if reached { "yes" } else { "no" };
+                write!(f, "serial {serial} reached {word}")
+            }
+            Ok(None) => write!(f, "empty"),
+            Err(fault) => write!(f, "{}", Words(fault)),
+        }
     }
 }
 
 // The answer to adding a place to a slip.
-pub(crate) fn added_words(
-    heap: Global,
-    added: Result<(), RuleFault>,
-) -> Result<String, AllocError> {
-    match added {
-        Ok(()) => format!(in heap; "added"),
-        Err(fault) => refused(heap, fault),
+impl fmt::Display for Words<Result<(), RuleFault>> {
+    fn fmt<W: fmt::Write>(&self, f: &mut fmt::Formatter<W>) -> fmt::Result {
+        match self.0 {
+            Ok(()) => write!(f, "added"),
+            Err(fault) => write!(f, "{}", Words(fault)),
+        }
     }
 }

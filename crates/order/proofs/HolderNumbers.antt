@@ -4,10 +4,10 @@ use Rattle.std.proofs.lemmas.Bool.{or_cases, or_left, or_right, and_parts, and_f
 use Rattle.events.specs.declared.Event.{Event}
 use Rattle.events.specs.declared.Action.{Action}
 use Rattle.events.specs.declared.Action.TheVariants.{Read, Write, Acquire, Release, ReadFlag, WriteFlag, Fork, Join, Allocate, Commit}
-use Rattle.events.specs.Places.{member}
+use Rattle.events.specs.Places.{member, those_below}
 use Rattle.order.specs.Acts.{kind, operand, read_set, write_set, is, does, commits}
 use Rattle.order.specs.Holders.{Holder, of_thread, of_lock, of_flag, of_place, gives, takes, holder_number, InRange}
-use Rattle.order.specs.Slots.{those_below, place_holders_below, place_holders, taken, given}
+use Rattle.order.specs.Slots.{place_holders_below, place_holders, taken, given}
 use Rattle.order.specs.Verdicts.{NoFault}
 use Rattle.order.proofs.Acts.{does_parts, does_from, member_place, commits_place}
 use Rattle.order.proofs.Faults.{thread_range, forked_range, joined_range, lock_flag_range}

@@ -9,9 +9,9 @@ use Rattle.events.specs.declared.Event.{Event}
 use Rattle.events.specs.declared.Action.{Action}
 use Rattle.events.specs.declared.Action.TheVariants.{Read, Write, Acquire, Release, ReadFlag, WriteFlag, Fork, Join, Allocate, Commit}
 use Rattle.events.specs.declared.PlaceSet.{PlaceSet}
-use Rattle.events.specs.Places.{member}
+use Rattle.events.specs.Places.{member, those_below}
 use Rattle.order.specs.Work.{Call, begin, forget, pass, passes_made, forget_from, written, looked_at, committed, accesses, calls, passes_of, passes_by}
-use Rattle.order.specs.Slots.{those_below, place_holders_below, place_holders, taken, given}
+use Rattle.order.specs.Slots.{place_holders_below, place_holders, taken, given}
 
 those_step : (n : ℕ) (f : ℕ → Bool) → length (those_below (suc n) f) ≡ length (those_below n f) + cond (f n) 1 0
 unfolding those_below

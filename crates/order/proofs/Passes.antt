@@ -2,8 +2,8 @@
 use Rattle.std.proofs.Common.{◌≡◌, ℕ, zero, suc, ◌+◌, ◌<◌, Bool, true, false, cond, ◌&&◌, ◌||◌, eqb, ◌⊎◌, List, [], ◌∷◌, ◌++◌, map, sym, refl, ap, ◌∙◌, inl, inr, append-nil, add-one, arith}
 use mathlib.Core.List.{map-append}
 use Rattle.std.proofs.lemmas.Bool.{cases_eq, or_cases, or_left, or_right, and_parts, and_from, eq-eqb, eqb-true, false≢true}
-use Rattle.events.specs.Places.{member}
-use Rattle.order.specs.Slots.{Set, passed, pass_in, pass_out, those_below, place_holders_below}
+use Rattle.events.specs.Places.{member, those_below}
+use Rattle.order.specs.Slots.{Set, passed, pass_in, pass_out, place_holders_below}
 
 abbrev pub has : List ℕ → ℕ → Bool
 has [] x = false

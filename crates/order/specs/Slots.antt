@@ -6,11 +6,11 @@
 --   taken e, given e      the holders that e passes from into its thread, and from its thread to, in ascending order
 --   worked e p k s        the set after e: passes in, the access, passes out
 --   InSlot rec p k h      the slot's access has reached h
-use Rattle.std.specs.Prelude.{◌≡◌, ℕ, zero, suc, ◌+◌, Bool, true, false, cond, ◌&&◌, ◌||◌, ◌↔◌, List, [], ◌∷◌, ◌++◌, map, Some, None, Option, ◌==◌, nat_lt}
+use Rattle.std.specs.Prelude.{◌≡◌, ℕ, zero, suc, ◌+◌, Bool, true, false, cond, ◌&&◌, ◌||◌, ◌↔◌, List, [], ◌∷◌, map, Some, None, Option, ◌==◌, nat_lt}
 use Rattle.events.specs.declared.Event.{Event}
 use Rattle.events.specs.declared.Action.{Action}
 use Rattle.events.specs.declared.Action.TheVariants.{Read, Write, Acquire, Release, ReadFlag, WriteFlag, Fork, Join, Allocate, Commit}
-use Rattle.events.specs.Places.{member}
+use Rattle.events.specs.Places.{member, those_below}
 use Rattle.order.specs.Acts.{allocates, writes_place}
 use Rattle.order.specs.Judgement.{latest_write, latest_read, reads_by}
 use Rattle.order.specs.Holders.{Holder, Reached, InRange, holder_number}
@@ -56,11 +56,6 @@ pass_in t (h ∷ hs) s = pass_in t hs (passed h t s)
 unfoldable pub pass_out : ℕ → List ℕ → Set → Set
 pass_out t [] s = s
 pass_out t (h ∷ hs) s = pass_out t hs (passed t h s)
-
--- the numbers below n that pass the test, ascending
-unfoldable pub those_below : ℕ → (ℕ → Bool) → List ℕ
-those_below zero f = []
-those_below (suc n) f = those_below n f ++ cond (f n) (n ∷ []) []
 
 -- the holders that stand for the places below n of two sets together
 unfoldable pub place_holders_below : ℕ → ℕ → ℕ → List ℕ

@@ -1,5 +1,5 @@
 -- The changes kind by kind are those of forks, joins, acquires and releases. Assumes nothing.
-use Rattle.std.proofs.Common.{◌≡◌, ℕ, Bool, true, false, cond, not, ◌&&◌, ◌||◌, eqb, ltb, Some, None, Option, refl, ap, ◌∙◌}
+use Rattle.std.proofs.Common.{◌≡◌, ℕ, Bool, true, false, cond, not, ◌&&◌, ◌||◌, eqb, ltb, Some, None, Option, refl, sym, ap, ◌∙◌}
 use mathlib.Core.Path.{fun_ext}
 use Rattle.std.proofs.lemmas.Bool.{cond-false}
 use Rattle.events.specs.declared.Event.{Event}
@@ -96,3 +96,8 @@ noted_from r r' e threads locks =
       ends = fun_ext (λ t. ap is_over (threads t) ∙ over_after e.thread e.action t (state_of r t) (λ h. cond-false (ltb t 8) _ Unstarted h));
       locked = fun_ext (λ l. locks l ∙ held_after e.thread e.action l (holders r l));
     }
+
+-- where it is known which action the event does
+pub noted_by : (r r' : Roster) (e : Event) (a : Action) → e.action ≡ a → ((t : ℕ) → state_of r' t ≡ state_after a t (state_of r t)) → ((l : ℕ) → holders r' l ≡ holder_after e.thread a l (holders r l)) → Noted r e r'
+noted_by r r' e a is threads locks =
+    noted_from r r' e (λ t. threads t ∙ ap (λ b. state_after b t (state_of r t)) (sym is)) (λ l. locks l ∙ ap (λ b. holder_after e.thread b l (holders r l)) (sym is))

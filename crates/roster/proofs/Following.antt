@@ -1,5 +1,5 @@
 -- A roster that is new and then notes each event that no number refuses says what the record does. Assumes nothing.
-use Rattle.std.proofs.Common.{◌≡◌, ℕ, Bool, true, false, cond, not, ◌&&◌, ◌||◌, eqb, ltb, List, [], ◌∷◌, length, Some, None, Option, sym, refl, ap, ◌∙◌, subst, inl, inr}
+use Rattle.std.proofs.Common.{◌≡◌, ℕ, Bool, true, false, cond, not, ◌&&◌, ◌||◌, eqb, ltb, List, [], ◌∷◌, length, Some, None, Option, Result, sym, refl, ap, ◌∙◌, subst, inl, inr}
 use mathlib.Core.Path.{fun_ext}
 use Rattle.std.proofs.lemmas.Bool.{and_cases, or_parts, or_left, not-false, both_ways, lt-ltb}
 use Rattle.events.specs.declared.Event.{Event}
@@ -27,7 +27,7 @@ rule_follows rec r e f =
     λ i. rule (starts i) (ends i) (locked i) (length rec) e
 
 -- and so is what the code answers, where it counts the events
-pub rule_tells : (rec : List Event) (r : Roster) (n : ℕ) (e : Event) (o : Option RuleFault) → Follows rec r → n ≡ length rec → numbered o ≡ refused r n e → numbered o ≡ fault rec e
+pub rule_tells : (rec : List Event) (r : Roster) (n : ℕ) (e : Event) (o : Result (Unit {0}) RuleFault) → Follows rec r → n ≡ length rec → numbered o ≡ refused r n e → numbered o ≡ fault rec e
 rule_tells rec r n e o f count h = h ∙ ap (λ m. refused r m e) count ∙ rule_follows rec r e f
 
 pub follows_none : (r : Roster) → Fresh r → Follows [] r

@@ -1,5 +1,5 @@
 -- No two refusals have one number, and the numbers are 1 to 9. Assumes nothing.
-use Rattle.std.proofs.Common.{◌≡◌, ℕ, ◌≤◌, cond, eqb, Some, None, Option, sym, refl, ap, ◌∙◌, arith}
+use Rattle.std.proofs.Common.{◌≡◌, ℕ, ◌≤◌, cond, eqb, Ok, Err, Result, sym, refl, ap, ◌∙◌, arith}
 use Rattle.order.proofs.Options.{same_some, some_not_none}
 use Rattle.roster.specs.declared.fault.RuleFault.{RuleFault}
 use Rattle.roster.specs.declared.fault.RuleFault.TheVariants.{NoSuchThread, NoSuchThing, NotRunning, ForkedBefore, JoinsAmiss, LockHeld, LockNotHeld, JoinedHolds, RecordFull}
@@ -23,11 +23,11 @@ of_number RecordFull = refl
 pub same_fault : (f g : RuleFault) → fault_number f ≡ fault_number g → f ≡ g
 same_fault f g h = sym (of_number f) ∙ ap fault_of h ∙ of_number g
 
-pub same_refusal : (o p : Option RuleFault) → numbered o ≡ numbered p → o ≡ p
-same_refusal None None h = refl
-same_refusal None (Some g) h = absurd (some_not_none (numbered (Some g)) (fault_number g) refl (sym h))
-same_refusal (Some f) None h = absurd (some_not_none (numbered (Some f)) (fault_number f) refl h)
-same_refusal (Some f) (Some g) h = ap {B = Option RuleFault} Some (same_fault f g (same_some _ _ _ refl h))
+pub same_refusal : (o p : Result (Unit {0}) RuleFault) → numbered o ≡ numbered p → o ≡ p
+same_refusal (Ok a) (Ok b) h = refl
+same_refusal (Ok a) (Err g) h = absurd (some_not_none (numbered (Err g)) (fault_number g) refl (sym h))
+same_refusal (Err f) (Ok b) h = absurd (some_not_none (numbered (Err f)) (fault_number f) refl h)
+same_refusal (Err f) (Err g) h = ap {B = Result (Unit {0}) RuleFault} Err (same_fault f g (same_some _ _ _ refl h))
 
 pub fault_range : (f : RuleFault) → (1 ≤ fault_number f) × (fault_number f ≤ 9)
 fault_range NoSuchThread = (omega arith, omega arith)

@@ -112,3 +112,7 @@ first_is_refused r n e =
     let locks = lock_is (holders r) t a in
     let parts : first_number r n t a ≡ or_else (cond (no_such_thread e) (Some 1) (cond (no_such_thing e) (Some 2) None)) (or_else (cond (not_running (begun r) (over r) e) (Some 3) (cond (forked_before (begun r) e) (Some 4) (cond (joins_amiss (begun r) e) (Some 5) None))) (or_else (cond (lock_held (holders r) e) (Some 6) (cond (lock_not_held (holders r) e) (Some 7) (cond (joined_holds (holders r) e) (Some 8) None))) (count_number n))) = λ i. or_else (range i) (or_else (states i) (or_else (locks i) (count_number n))) in
     parts ∙ chain (no_such_thread e) (no_such_thing e) (not_running (begun r) (over r) e) (forked_before (begun r) e) (joins_amiss (begun r) e) (lock_held (holders r) e) (lock_not_held (holders r) e) (joined_holds (holders r) e) (count_number n) ∙ sym (rule_is (begun r) (over r) (holders r) n e)
+
+-- so what the four groups of tests answer, one after another, is too
+pub told : (r : Roster) (n : ℕ) (e : Event) (ranges states locks count : Option ℕ) → ranges ≡ range_number e.thread e.action → states ≡ state_number (state_of r e.thread) (begun r) e.thread e.action → locks ≡ lock_number (holders r) e.thread e.action → count ≡ count_number n → or_else ranges (or_else states (or_else locks count)) ≡ refused r n e
+told r n e ranges states locks count f g h k = (λ i. or_else (f i) (or_else (g i) (or_else (h i) (k i)))) ∙ first_is_refused r n e

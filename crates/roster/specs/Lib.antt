@@ -4,3 +4,4 @@ pub mod Numbers
 pub mod Checks
 pub mod Changes
 pub mod Follows
+pub mod Texts

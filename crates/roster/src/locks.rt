@@ -1,5 +1,5 @@
 // The lock table: who holds each of the 32 locks.
-ghost use Rattle.std.specs.Prelude.{◌≡◌, ℕ, ◌&&◌, if◌then◌else◌, Some, None, ◌==◌, nat_eq, nat_lt};
+ghost use Rattle.std.specs.Prelude.{◌≡◌, ℕ, ◌&&◌, if◌then◌else◌, Option, Some, None, ◌==◌, nat_eq, nat_lt};
 ghost use Rattle.order.specs.Faults.{held_by};
 ghost use Rattle.roster.specs.States.{holder_of, holds_some};
 
@@ -17,6 +17,7 @@ impl Lock {
     }
 }
 
+// One record for each lock, so that one element is read or changed at a time.
 #[derive(Drop)]
 pub struct LockTable {
     locks: [Lock; 32],
@@ -36,48 +37,42 @@ impl LockTable {
     pub fn holder(&self, lock: u8) -> Option<u8>
         ensures { result ≡ holder_of self.now lock }
     {
-        if lock >= 32 {
-            return None;
-        }
-        self.locks[lock as usize].holder
+        self.locks.get(usize::from(lock))?.holder
     }
 
     pub fn is_held_by(&self, lock: u8, thread: u8) -> bool
         ensures { result ≡ held_by (holder_of self.now lock) thread }
     {
-        match self.holder(lock) {
-            Some(holder) => holder == thread,
-            None => false,
-        }
+        self.holder(lock) == Some(thread)
     }
 
     // Whether the thread holds any lock.
     pub fn holds_any(&self, thread: u8) -> bool
         ensures { result ≡ holds_some 32 (holder_of self.now) thread }
     {
-        for lock in 0..32u8 {
-            if self.is_held_by(lock, thread) {
-                return true;
-            }
-        }
-        false
+        self.locks.iter().any(|lock| lock.holder == Some(thread))
     }
 
     // The thread now holds the lock.
     pub fn acquire(&mut self, lock: u8, thread: u8)
         ensures { (l : ℕ) → holder_of self.new l ≡ (if nat_lt l 32 && lock == l then Some thread else holder_of self.old l) }
     {
-        if lock < 32 {
-            self.locks[lock as usize].holder = Some(thread);
-        }
+        self.set_holder(lock, Some(thread))
     }
 
     // Nobody holds the lock now.
     pub fn release(&mut self, lock: u8)
         ensures { (l : ℕ) → holder_of self.new l ≡ (if nat_eq lock l then None else holder_of self.old l) }
     {
+        self.set_holder(lock, None)
+    }
+
+    fn set_holder(&mut self, lock: u8, holder: Option<u8>)
+        ensures { (l : ℕ) → holder_of self.new l ≡ (if nat_lt l 32 && lock == l then holder else holder_of self.old l) }
+    {
+        // By an index: a slice's `get_mut` tells a proof nothing of the elements.
         if lock < 32 {
-            self.locks[lock as usize].holder = None;
+            self.locks[usize::from(lock)].holder = holder;
         }
     }
 }

@@ -9,8 +9,7 @@ pub fn no_such_thread(event: Event) -> bool
     ensures { result ≡ strange_thread event.thread event.action }
 {
     match event.action {
-        Action::Fork { child } => event.thread >= 8 || child >= 8,
-        Action::Join { child } => event.thread >= 8 || child >= 8,
+        Action::Fork { child } | Action::Join { child } => event.thread >= 8 || child >= 8,
         _ => event.thread >= 8,
     }
 }
@@ -20,12 +19,9 @@ pub fn no_such_thing(event: Event) -> bool
     ensures { result ≡ strange_thing event.action }
 {
     match event.action {
-        Action::Read { place } => place >= 64,
-        Action::Write { place } => place >= 64,
-        Action::Acquire { lock } => lock >= 32,
-        Action::Release { lock } => lock >= 32,
-        Action::ReadFlag { flag } => flag >= 32,
-        Action::WriteFlag { flag } => flag >= 32,
+        Action::Read { place } | Action::Write { place } => place >= 64,
+        Action::Acquire { lock } | Action::Release { lock } => lock >= 32,
+        Action::ReadFlag { flag } | Action::WriteFlag { flag } => flag >= 32,
         Action::Allocate { object } => object >= 16,
         _ => false,
     }

@@ -10,9 +10,8 @@ use roster::RuleFault;
 #[derive(Clone, Copy)]
 struct Answers {
     forked: Verdict,
-    first_place: Result<(), RuleFault>,
-    last_place: Result<(), RuleFault>,
-    beyond: Result<(), RuleFault>,
+    // each place, and the answer to adding it
+    added: [(u8, Result<(), RuleFault>); 3],
     first: Verdict,
     second: Verdict,
 }
@@ -25,16 +24,16 @@ fn commit_two(monitor: &mut Monitor<Clocks>) -> Answers {
     });
     let mut one = Slip::open(0);
     let mut two = Slip::open(1);
-    let first_place = one.add_read(0);
-    let last_place = two.add_write(63);
-    let beyond = two.add_read(64);
+    let added = [
+        (0, one.add_read(0)),
+        (63, two.add_write(63)),
+        (64, two.add_read(64)),
+    ];
     let first = one.commit(monitor);
     let second = two.commit(monitor);
     Answers {
         forked,
-        first_place,
-        last_place,
-        beyond,
+        added,
         first,
         second,
     }
@@ -50,19 +49,16 @@ fn abandon_one() {
 fn place_line(rt: &HostRuntime, place: u8, answer: Result<(), RuleFault>) -> anyhow::Result<()> {
     match answer {
         Ok(()) => println!(rt; "place {place}: added")?,
-        Err(fault) => {
-            let number = fault.number();
-            println!(rt; "place {place}: refused {number}, {fault:?}")?;
-        }
+        Err(fault) => println!(rt; "place {place}: refused {}, {fault:?}", fault.number())?,
     }
     Ok(())
 }
 
 fn print_all(rt: &HostRuntime, answers: Answers) -> anyhow::Result<()> {
     println!(rt; "fork: {:?}", answers.forked)?;
-    place_line(rt, 0, answers.first_place)?;
-    place_line(rt, 63, answers.last_place)?;
-    place_line(rt, 64, answers.beyond)?;
+    for (place, answer) in answers.added {
+        place_line(rt, place, answer)?;
+    }
     println!(rt; "first commit: {:?}", answers.first)?;
     println!(rt; "second commit: {:?}", answers.second)?;
     Ok(())

@@ -6,9 +6,9 @@ use lib.Bits.{bit_or, or_step, or_shr}
 use Rattle.std.proofs.lemmas.Bool.Decides.{nat_tests}
 use Rattle.std.specs.List.{AllByRecursion}
 use Rattle.std.proofs.ByRecursion.{All-append}
-use Rattle.events.specs.Places.{member}
+use Rattle.events.specs.Places.{member, those_below}
 use Rattle.std.proofs.lemmas.Bool.{or_left, or_right, or_cases, eqb-true, false≢true}
-use Rattle.order.specs.Slots.{Set, those_below, place_holders_below, place_holders}
+use Rattle.order.specs.Slots.{Set, place_holders_below, place_holders}
 use Rattle.order.specs.Cells.{some_in}
 use Rattle.order.proofs.Passes.{has, has_shifted, has_those_below}
 use Rattle.slots.specs.Partners.{places_below, capped}

@@ -5,8 +5,7 @@
 --   capped hs          hs with every number past a byte's end put down to 255, which is no holder either
 use Rattle.std.specs.Prelude.{ℕ, ◌+◌, ◌<◌, min, List, [], ◌∷◌, map}
 use Rattle.std.specs.List.{AllByRecursion}
-use Rattle.events.specs.Places.{member}
-use Rattle.order.specs.Slots.{those_below}
+use Rattle.events.specs.Places.{member, those_below}
 use Rattle.slots.specs.declared.partners.Partners.{Partners}
 use Rattle.slots.specs.declared.partners.Partners.TheVariants.{Nobody, One, Places}
 

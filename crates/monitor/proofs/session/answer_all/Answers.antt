@@ -12,10 +12,9 @@ pub loop-call-preserved : goal.loop-call-preserved
 loop-call-preserved g c =
     let popped = c.in-Some.ensures in
     let pushed = c.push_reserved.ensures in
-    (sofar_more c.loop-call.invariant.0 _ _ c.answer.new.monitor c.in-Some.call c.answer.result popped.items pushed.items c.answer.ensures, omega (arith, popped.len, pushed.len, pushed.capacity, c.loop-call.invariant.1))
+    (sofar_more c.loop-call.invariant.0 c.pop_front.new.self.items c.push_reserved.new.self.items c.answer.new.monitor c.in-Some.call c.answer.result popped.items pushed.items c.answer.ensures, omega (arith, popped.len, pushed.len, pushed.capacity, c.loop-call.invariant.1))
 
-pub returns : goal.returns
-returns g c =
-    let none = nil_from_length (deque_items c.loop-call.calls) (omega (arith, c.loop-call.calls.ok.0, c.in_default.ensures.cases.0)) in
-    let all = sofar_all c.loop-call.invariant.0 none in
-    record { promise = all.0; stands = all.1; examples = examples_answered _ _ all.0 }
+pub returns-clause-examples : goal.returns-clause-examples
+returns-clause-examples g c =
+    let none = nil_from_length (deque_items c.loop-call.calls) (omega (arith, c.loop-call.calls.ok.0, c.in_default-pop_front.ensures.cases.0)) in
+    examples_answered _ _ (sofar_all c.loop-call.invariant.0 none).0

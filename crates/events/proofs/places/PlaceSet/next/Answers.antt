@@ -1,12 +1,9 @@
-use Rattle.std.proofs.Common.{arith}
-use Rattle.events.proofs.Zeros.{none_before, there}
+use Rattle.std.proofs.Common.{◌/◌, ◌^◌, ap, ◌∙◌, arith}
+use Rattle.events.proofs.Zeros.{none_from, lowest_from}
 use Rattle.events.proofs.places.PlaceSet.next.Goals as goal
 
-pub returns-then-place-lt64 : goal.returns-then-place-lt64
-returns-then-place-lt64 c =
-    let w = c.args.self.word in
-    let n = c.args.from in
-    (omega arith, omega arith, there w n (omega arith), none_before w n _ (omega arith))
+pub returns-then-rest-eq0 : goal.returns-then-rest-eq0
+returns-then-rest-eq0 c = none_from c.args.self.word c.args.from c.in_ok-rest.rest (c.in_ok-rest.ensures.1 ∙ ap (λ n. c.args.self.word / 2 ^ n) c.from.ensures) c.if-rest-eq0.true
 
-pub returns-else-place-lt64 : goal.returns-else-place-lt64
-returns-else-place-lt64 c = none_before c.args.self.word c.args.from 64 (omega arith)
+pub returns : goal.returns
+returns c = lowest_from c.args.self.word c.args.from c.in_ok-rest.rest (c.in_ok-rest.ensures.1 ∙ ap (λ n. c.args.self.word / 2 ^ n) c.from.ensures) (omega arith) c.if-rest-eq0.false

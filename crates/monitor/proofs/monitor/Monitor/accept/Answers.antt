@@ -2,12 +2,8 @@ use Rattle.std.proofs.Common.{refl}
 use Rattle.monitor.proofs.Standing.{stands_more}
 use Rattle.monitor.proofs.monitor.Monitor.accept.Goals as goal
 
-pub returns : goal.returns
-returns g c =
+pub returns-clause-stands : goal.returns-clause-stands
+returns-clause-stands g c rec stands took =
     let work = c.work.ensures in
-    record {
-      stands = λ rec stands took.
-          let done = work.keeper stands.lives in
-          stands_more g.K.Keeper.live g.K.Keeper.meaning rec c.args.self.now stands c.args.event _ c.args.serial took refl c.note.ensures done.0 done.1 work.serials;
-      keeper = λ lives. (work.keeper lives).1;
-    }
+    let done = work.keeper stands.lives in
+    stands_more stands c.args.event _ c.args.serial took refl c.note.ensures done.0 done.1 work.serials
