@@ -22,7 +22,7 @@ impl<K: Keeper> Run<K> {
         ensures { (rec : List AnEvent) → Stands K.live K.meaning rec self.old.monitor → Put self.old.findings.list.items number (judge rec event) result self.new.findings.list.items × Stands K.live K.meaning (recorded rec event (judge rec event)) self.new.monitor }
     {
         match self.monitor.offer(event) {
-            Verdict::Accepted { serial: _ } => Ok(()),
+            Verdict::Accepted { .. } => Ok(()),
             Verdict::Declined { place, witness } => {
                 self.findings.add(Finding {
                     event: number,
