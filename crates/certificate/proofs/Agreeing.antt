@@ -1,5 +1,5 @@
 -- A file has one outcome, and so one certificate. Assumes nothing.
-use Rattle.std.proofs.Common.{◌≡◌, ℕ, cond, eqb, List, [], ◌∷◌, length, IfOk, Some, None, Ok, Err, string_bytes, Option, Result, String, sym, refl, ap, ◌∙◌, subst, arith}
+use Rattle.std.proofs.Common.{◌≡◌, ℕ, List, [], ◌∷◌, length, IfOk, Some, None, Ok, Err, string_bytes, Option, Result, String, sym, ap, ◌∙◌, subst, arith}
 use Rattle.events.specs.declared.Event.{Event}
 use Rattle.order.specs.Judgement.{Answer, accepted, refused, declined, judge, recorded}
 use Rattle.roster.proofs.Numbers.{same_fault}

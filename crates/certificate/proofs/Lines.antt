@@ -43,9 +43,9 @@ module _ {W : Type 0} (took : W → List ℕ → W → Type 0) (f : Formatter W)
     written_more fs i d lt sofar line = has_written_of_eq took f _ _ h (findings_more fs i d lt) (has_written_append took f _ g _ h sofar line)
 
     -- first line, findings and last line make the text
-    pub written_text : (e : Formatter W) (a : ℕ) (fs gs : List Finding) (i : ℕ) (end : Option Fault) (last : List ℕ) → gs ≡ fs → length gs ≤ i → HasWritten took e (first_text a (length gs)) f → HasWritten took f (findings_text (take i gs)) g → HasWritten took g last h → last ≡ last_text gs end → HasWritten took e (text a fs end) h
+    pub written_text : (e : Formatter W) (a : ℕ) (fs : List Finding) (i : ℕ) (end : Option Fault) (last : List ℕ) → length fs ≤ i → HasWritten took e (first_text a (length fs)) f → HasWritten took f (findings_text (take i fs)) g → HasWritten took g last h → last ≡ last_text fs end → HasWritten took e (text a fs end) h
     unfolding text
-    written_text e a fs gs i end last same all first some ends is =
-        let lines = ap findings_text (take_all i gs all) in
-        let whole : (first_text a (length gs) ++ findings_text (take i gs)) ++ last ≡ (first_text a (length fs) ++ findings_text fs) ++ last_text fs end = cc in
+    written_text e a fs i end last all first some ends is =
+        let lines = ap findings_text (take_all i fs all) in
+        let whole : (first_text a (length fs) ++ findings_text (take i fs)) ++ last ≡ (first_text a (length fs) ++ findings_text fs) ++ last_text fs end = cc in
         has_written_of_eq took e _ _ h whole (has_written_append took e _ g _ h (has_written_append took e _ f _ g first some) ends)

@@ -5,7 +5,7 @@
 --   Halts fs a c           an event so answered ends the run, for the cause c
 --   Runs bytes p rec fs es o   from the place p, the record and the findings on, the events es are read and pass, and then
 --                          the run comes to the outcome o
-use Rattle.std.specs.Prelude.{◌≡◌, ℕ, ◌<◌, ◌≤◌, List, [], ◌∷◌, ◌++◌, length, Some, None, Ok, Err, vec_items, Option, Result}
+use Rattle.std.specs.Prelude.{◌≡◌, ℕ, ◌<◌, ◌≤◌, List, [], ◌∷◌, ◌++◌, length, Some, None, Ok, Err, Option, Result}
 use Rattle.events.specs.declared.Event.{Event}
 use Rattle.keepers.specs.Meaning.{Meaning}
 use Rattle.order.specs.Judgement.{Answer, accepted, refused, declined, judge, recorded}
@@ -90,7 +90,7 @@ PutAt fs at a (Err f) fs' = Halts fs a f.cause × (f.at ≡ at) × (fs' ≡ fs)
 module _ {K : Type 0} (live : K → Type 0) (meaning : K → Meaning) where
   unfoldable pub Took : Run K → Event → Site → Result (Unit {0}) Fault → Run K → Type 0
   Took s e at r t =
-      (rec : List Event) → Stands live meaning rec s.monitor → PutAt (vec_items s.findings.list) at (judge rec e) r (vec_items t.findings.list) × Stands live meaning (recorded rec e (judge rec e)) t.monitor
+      (rec : List Event) → Stands live meaning rec s.monitor → PutAt s.findings at (judge rec e) r t.findings × Stands live meaning (recorded rec e (judge rec e)) t.monitor
 
   -- the run comes to this outcome, and the monitor stands for the record after it
   pub record CameTo (bytes : List ℕ) (p : Place) (rec : List Event) (fs : List Finding) (q : Place) (m : Monitor K) (fs' : List Finding) (end : Option Fault) : Type 0 where
@@ -101,4 +101,4 @@ module _ {K : Type 0} (live : K → Type 0) (meaning : K → Meaning) where
 
   unfoldable pub RunOn : List ℕ → Place → Run K → Place → Run K → Option Fault → Type 0
   RunOn bytes p s q t end =
-      (rec : List Event) → Stands live meaning rec s.monitor → CameTo bytes p rec (vec_items s.findings.list) q t.monitor (vec_items t.findings.list) end
+      (rec : List Event) → Stands live meaning rec s.monitor → CameTo bytes p rec s.findings q t.monitor t.findings end

@@ -6,7 +6,7 @@
 --                          the reader was left, or that event was declined, for a race, when 1,000 findings were listed
 --   Sentence bytes p rec es o   what is said of the run of the events es from the place p and the record on, with no findings at first,
 --                          which came to the outcome o
-use Rattle.std.specs.Prelude.{◌≡◌, ℕ, ◌+◌, ◌≤◌, List, [], ◌∷◌, ◌++◌, reverse, length, Some, None, Ok, Err, vec_items, Option, Result}
+use Rattle.std.specs.Prelude.{◌≡◌, ℕ, ◌+◌, ◌≤◌, List, [], ◌∷◌, ◌++◌, reverse, length, Some, None, Ok, Err, Option, Result}
 use Rattle.std.specs.List.{AllByRecursion}
 use Rattle.std.specs.declared.alloc.AllocFailed.{AllocFailed}
 use Rattle.events.specs.declared.Event.{Event}
@@ -61,5 +61,5 @@ module _ {K : Type 0} (live : K → Type 0) (meaning : K → Meaning) where
 
   -- the run of a file by a monitor; without memory nothing happens
   abbrev pub RanWhole : List ℕ → Place → Monitor K → Place → Result (Ran K) (AllocFailed (Monitor K)) → Type 0
-  RanWhole bytes p m q (Ok r) = (rec : List Event) → Stands live meaning rec m → Certified bytes p rec q r.monitor (vec_items r.findings.list) r.end
+  RanWhole bytes p m q (Ok r) = (rec : List Event) → Stands live meaning rec m → Certified bytes p rec q r.monitor r.findings r.end
   RanWhole bytes p m q (Err e) = (q ≡ p) × (e.value ≡ m)

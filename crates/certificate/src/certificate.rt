@@ -21,7 +21,7 @@ pub fn certificate_of<K: Keeper + Drop>(
     let ran = run_file(heap, &mut reader, Monitor::start(keeper))?;
     let certificate = Certificate {
         accepted: ran.monitor.accepted(),
-        findings: &ran.findings,
+        findings: ran.findings.as_slice(),
         end: ran.end,
     };
     text_of(heap, &certificate)

@@ -19,7 +19,7 @@ use trace::{Reader, Site, Taker};
 impl<K: Keeper> Run<K> {
     // Offers the file's event of that number; a decline becomes a finding.
     fn put(&mut self, event: Event, number: usize) -> Result<(), Cause>
-        ensures { (rec : List AnEvent) → Stands K.live K.meaning rec self.old.monitor → Put self.old.findings.list.items number (judge rec event) result self.new.findings.list.items × Stands K.live K.meaning (recorded rec event (judge rec event)) self.new.monitor }
+        ensures { (rec : List AnEvent) → Stands K.live K.meaning rec self.old.monitor → Put self.old.findings number (judge rec event) result self.new.findings × Stands K.live K.meaning (recorded rec event (judge rec event)) self.new.monitor }
     {
         match self.monitor.offer(event) {
             Verdict::Accepted { .. } => Ok(()),

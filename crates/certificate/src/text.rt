@@ -3,7 +3,7 @@ ghost use Rattle.std.specs.Prelude.{◌≡◌, IfOk, Some, string_bytes};
 ghost use Rattle.certificate.specs.Texts.{finding_text, fault_text, text as whole_text};
 
 use crate::fault::Fault;
-use crate::finding::{Finding, Findings};
+use crate::finding::Finding;
 use std::alloc::{AllocError, Global};
 use std::fmt;
 use trace::Site;
@@ -12,7 +12,7 @@ use trace::Site;
 #[derive(Clone, Copy)]
 pub struct Certificate<'a> {
     pub accepted: u32,
-    pub findings: &'a Findings,
+    pub findings: &'a [Finding],
     pub end: Option<Fault>,
 }
 
@@ -47,15 +47,19 @@ impl fmt::Display for Fault {
 
 // The first line, a line for each finding, and the last line, which tells how the run ended.
 impl fmt::Display for Certificate<'_> {
-    ghost output = { λ c. Some (whole_text c.accepted c.findings.now.list.items c.end) };
+    ghost output = { λ c. Some (whole_text c.accepted c.findings.now c.end) };
 
     fn fmt<W: fmt::Write>(&self, f: &mut fmt::Formatter<W>) -> fmt::Result {
-        let findings = self.findings.list.as_slice();
-        writeln!(f, "accepted {} declined {}", self.accepted, findings.len())?;
-        for finding in findings {
+        writeln!(
+            f,
+            "accepted {} declined {}",
+            self.accepted,
+            self.findings.len()
+        )?;
+        for finding in self.findings {
             writeln!(f, "{finding}")?;
         }
-        match (self.end, findings) {
+        match (self.end, self.findings) {
             (Some(fault), _) => writeln!(f, "{fault}"),
             (None, []) => writeln!(f, "clean"),
             (None, _) => writeln!(f, "not clean"),
@@ -65,7 +69,7 @@ impl fmt::Display for Certificate<'_> {
 
 // The whole text.
 pub fn text_of(heap: Global, certificate: &Certificate<'_>) -> Result<String, AllocError>
-    ensures { IfOk result (λ t. string_bytes t ≡ whole_text certificate.now.accepted certificate.now.findings.now.list.items certificate.now.end) }
+    ensures { IfOk result (λ t. string_bytes t ≡ whole_text certificate.now.accepted certificate.now.findings.now certificate.now.end) }
 {
     format!(in heap; "{certificate}")
 }
