@@ -1,6 +1,6 @@
 // What a host asks for by number, and by which number it is told that there is no certificate.
-ghost use Rattle.std.specs.Prelude.{◌≡◌, IfOk, string_bytes};
-ghost use Rattle.certificate.specs.Call.{NamedBy, fault_answer};
+ghost use Rattle.std.specs.Prelude.{◌≡◌, IfOk, Some, string_bytes};
+ghost use Rattle.certificate.specs.Call.{NamedBy, fault_answer, fault_words};
 ghost use Rattle.certificate.specs.Certified.{Certifies};
 ghost use Rattle.certificate.specs.declared.call.CallFault.TheVariants.{NoMemory};
 
@@ -9,6 +9,8 @@ use clocks::Clocks;
 use locksets::Locksets;
 use shortcut::ShortCut;
 use std::alloc::{AllocError, Global};
+use std::error::Error;
+use std::fmt;
 
 // The keepers that a run can use: locksets, clocks, or the short-cut layer over each.
 #[derive(Clone, Copy, PartialEq, Eq, Debug)]
@@ -23,11 +25,11 @@ pub enum KeeperKind {
 #[derive(Clone, Copy, PartialEq, Eq, Debug)]
 pub enum CallFault {
     // there is no such kind of keeper
-    NoSuchKind,
+    NoSuchKind = -22,
     // the text does not fit the buffer
-    NoRoom,
+    NoRoom = -19,
     // there is no memory for the run or its text
-    NoMemory,
+    NoMemory = -100,
 }
 
 impl TryFrom<u32> for KeeperKind {
@@ -59,13 +61,23 @@ impl CallFault {
     pub fn number(self) -> i64
         ensures { result ≡ fault_answer self }
     {
-        match self {
-            CallFault::NoSuchKind => -22,
-            CallFault::NoRoom => -19,
-            CallFault::NoMemory => -100,
-        }
+        self as i64
     }
 }
+
+impl fmt::Display for CallFault {
+    ghost output = { λ fault. Some (fault_words fault) };
+
+    fn fmt<W: fmt::Write>(&self, f: &mut fmt::Formatter<W>) -> fmt::Result {
+        f.write_str(match self {
+            CallFault::NoSuchKind => "there is no such kind of keeper",
+            CallFault::NoRoom => "the certificate does not fit the buffer",
+            CallFault::NoMemory => "there is no memory",
+        })
+    }
+}
+
+impl Error for CallFault {}
 
 impl KeeperKind {
     // The certificate of a file over a keeper of this kind.

@@ -5,11 +5,12 @@ ghost use Rattle.certificate.specs.Texts.{finding_text, fault_text, text as whol
 use crate::fault::Fault;
 use crate::finding::Finding;
 use std::alloc::{AllocError, Global};
+use std::error::Error;
 use std::fmt;
 use trace::Site;
 
 // What a certificate tells: how many events are accepted, the findings, and the fault that ended the run, if one did.
-#[derive(Clone, Copy)]
+#[derive(Clone, Copy, Debug)]
 pub struct Certificate<'a> {
     pub accepted: u32,
     pub findings: &'a [Finding],
@@ -44,6 +45,8 @@ impl fmt::Display for Fault {
         )
     }
 }
+
+impl Error for Fault {}
 
 // The first line, a line for each finding, and the last line, which tells how the run ended.
 impl fmt::Display for Certificate<'_> {
