@@ -1,5 +1,6 @@
 -- The tests kind by kind are those that refuse an event by number. Assumes nothing.
 use Rattle.std.proofs.Common.{◌≡◌, ℕ, Bool, true, false, cond, not, ◌||◌, leb, Some, None, Option, sym, refl, ap, ◌∙◌}
+use Rattle.std.proofs.Math.Bool.{or-false}
 use Rattle.events.specs.declared.Event.{Event}
 use Rattle.events.specs.declared.Action.{Action}
 use Rattle.events.specs.declared.Action.TheVariants.{Read, Write, Acquire, Release, ReadFlag, WriteFlag, Fork, Join, Allocate, Commit}
@@ -13,10 +14,6 @@ use Rattle.roster.specs.Checks.{strange_thread, strange_thing, range_number, chi
 use Rattle.roster.specs.Numbers.{refused}
 use Rattle.roster.specs.States.{holds_some, has_begun, is_over, state_of, begun, over, holders}
 
-or_false : (b : Bool) → b ≡ (b || false)
-or_false true = refl
-or_false false = refl
-
 cond_not : {X : Type 0} (b : Bool) (x y : X) → cond b x y ≡ cond (not b) y x
 cond_not true x y = refl
 cond_not false x y = refl
@@ -28,27 +25,23 @@ thread_is : (t : ℕ) (a : Action) → strange_thread t a ≡ no_such_thread (do
 unfolding no_such_thread
 thread_is t (Fork u) = refl
 thread_is t (Join u) = refl
-thread_is t (Read p) = or_false (leb 8 t)
-thread_is t (Write p) = or_false (leb 8 t)
-thread_is t (Acquire l) = or_false (leb 8 t)
-thread_is t (Release l) = or_false (leb 8 t)
-thread_is t (ReadFlag f) = or_false (leb 8 t)
-thread_is t (WriteFlag f) = or_false (leb 8 t)
-thread_is t (Allocate o) = or_false (leb 8 t)
-thread_is t (Commit r w) = or_false (leb 8 t)
-
-or_false_twice : (b : Bool) → b ≡ (b || false || false)
-or_false_twice true = refl
-or_false_twice false = refl
+thread_is t (Read p) = sym (or-false (leb 8 t))
+thread_is t (Write p) = sym (or-false (leb 8 t))
+thread_is t (Acquire l) = sym (or-false (leb 8 t))
+thread_is t (Release l) = sym (or-false (leb 8 t))
+thread_is t (ReadFlag f) = sym (or-false (leb 8 t))
+thread_is t (WriteFlag f) = sym (or-false (leb 8 t))
+thread_is t (Allocate o) = sym (or-false (leb 8 t))
+thread_is t (Commit r w) = sym (or-false (leb 8 t))
 
 thing_is : (t : ℕ) (a : Action) → strange_thing a ≡ no_such_thing (does_it t a)
 unfolding no_such_thing
-thing_is t (Read p) = or_false_twice (leb 64 p)
-thing_is t (Write p) = or_false_twice (leb 64 p)
-thing_is t (Acquire l) = or_false (leb 32 l)
-thing_is t (Release l) = or_false (leb 32 l)
-thing_is t (ReadFlag f) = or_false (leb 32 f)
-thing_is t (WriteFlag f) = or_false (leb 32 f)
+thing_is t (Read p) = sym (or-false (leb 64 p || false) ∙ or-false (leb 64 p))
+thing_is t (Write p) = sym (or-false (leb 64 p || false) ∙ or-false (leb 64 p))
+thing_is t (Acquire l) = sym (or-false (leb 32 l))
+thing_is t (Release l) = sym (or-false (leb 32 l))
+thing_is t (ReadFlag f) = sym (or-false (leb 32 f))
+thing_is t (WriteFlag f) = sym (or-false (leb 32 f))
 thing_is t (Allocate o) = refl
 thing_is t (Fork u) = refl
 thing_is t (Join u) = refl

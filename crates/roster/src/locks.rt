@@ -1,5 +1,5 @@
 // The lock table: who holds each of the 32 locks.
-ghost use Rattle.std.specs.Prelude.{◌≡◌, ℕ, ◌&&◌, if◌then◌else◌, Option, Some, None, ◌==◌, nat_eq, nat_lt};
+ghost use Rattle.std.specs.Prelude.{◌≡◌, ℕ, ◌&&◌, if◌then◌else◌, Some, None, ◌==◌, nat_eq, nat_lt};
 ghost use Rattle.order.specs.Faults.{held_by};
 ghost use Rattle.roster.specs.States.{holder_of, holds_some};
 

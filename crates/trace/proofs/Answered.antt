@@ -1,5 +1,5 @@
 -- What an answer of reading on says of the file and of the reader's place. Assumes nothing.
-use Rattle.std.proofs.Common.{◌≡◌, ℕ, ◌+◌, ◌-◌, ◌*◌, ◌<◌, ◌≤◌, Bool, true, false, cond, eqb, ltb, ◌⊎◌, List, length, get_or, Some, None, Ok, Err, Option, Result, refl, ap, ◌∙◌, inl, inr, arith}
+use Rattle.std.proofs.Common.{◌≡◌, ℕ, ◌+◌, ◌-◌, ◌*◌, ◌<◌, ◌≤◌, Bool, true, false, cond, eqb, ltb, ◌⊎◌, List, length, get_or, Some, None, Ok, Err, Option, Result, IfErr, sym, refl, ap, ◌∙◌, inl, inr, arith}
 use Rattle.std.proofs.lemmas.Bool.{cond_both, cond-false, cond-true, eqb-false, ltb-true, ltb-false, ne_eqb}
 use Rattle.events.specs.declared.Event.{Event}
 use Rattle.trace.specs.declared.fault.Refusal.{Refusal}
@@ -104,3 +104,8 @@ module _ (bytes : List ℕ) (p : Place) where
       let byte = ap (λ q. q.byte) read.moves in
       let low = inside_behind bytes p read.opens begun in
       omega arith
+
+-- a refusal of reading on, as the rules tell it
+pub next_rule : (bytes : List ℕ) (p : Place) (r : Result (Option Event) Refusal) → (0 < p.byte → Stands bytes p) → r ≡ next bytes p → IfErr r (λ f. FirstRefusal bytes f ⊎ EventRefusal bytes (inside bytes p) f)
+next_rule bytes p (Ok x) stands e = tt
+next_rule bytes p (Err f) stands e = next_refusal bytes p (begun_stands bytes p stands) f (sym e)

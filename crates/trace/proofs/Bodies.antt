@@ -1,10 +1,14 @@
 -- The bytes of several events, one event more, and cut in two. Assumes nothing.
-use Rattle.std.proofs.Common.{◌≡◌, ℕ, ◌+◌, ◌<◌, ◌≤◌, List, [], ◌∷◌, ◌++◌, length, get_or, take, drop, sym, refl, ap, ◌∙◌, arith}
+use Rattle.std.proofs.Common.{◌≡◌, ℕ, ◌+◌, ◌*◌, ◌<◌, ◌≤◌, List, [], ◌∷◌, ◌++◌, length, get_or, take, drop, sym, refl, ap, ◌∙◌, arith}
 use Rattle.std.proofs.lemmas.List.{append-nil, append_assoc, length-append, take_more, take_all, take-append-drop}
+use Rattle.std.proofs.lemmas.List.Concat.{length-flat_map}
+use Rattle.std.specs.List.{sum_by}
 use Rattle.events.specs.declared.Event.{Event}
 use Rattle.events.specs.declared.Action.TheVariants.{Read}
-use Rattle.trace.specs.Codec.{event_bytes}
+use Rattle.trace.specs.Codec.{kind, event_bytes}
 use Rattle.trace.specs.File.{body}
+use Rattle.trace.proofs.Events.{size_few, length_event}
+use Rattle.trace.proofs.Opened.{size_some}
 
 pub body_none : body [] ≡ []
 unfolding body
@@ -42,3 +46,22 @@ length_body_take es i = let e = ap length (body_split es i) ∙ length-append (b
 
 pub length_body_all : (es : List Event) (i : ℕ) → length es ≤ i → length (body (take i es)) ≡ length (body es)
 length_body_all es i h = ap (λ l. length (body l)) (take_all i es h)
+
+pub length_body_sum : (es : List Event) → length (body es) ≡ sum_by (λ e. length (event_bytes e)) es
+unfolding body
+length_body_sum es = length-flat_map event_bytes es
+
+-- an event has 3 to 18 bytes
+pub length_body_least : (es : List Event) → length es ≤ length (body es)
+length_body_least [] = omega arith
+length_body_least (e ∷ es) =
+    let first = ap length (body_cons e es) ∙ length-append (event_bytes e) (body es) in
+    let least = size_some (kind e.action) in
+    omega (arith, length_event e, length_body_least es)
+
+pub length_body_most : (es : List Event) → length (body es) ≤ 18 * length es
+length_body_most [] = let none = ap length body_none in omega arith
+length_body_most (e ∷ es) =
+    let first = ap length (body_cons e es) ∙ length-append (event_bytes e) (body es) in
+    let most = size_few (kind e.action) in
+    omega (arith, length_event e, length_body_most es)

@@ -33,7 +33,6 @@ pub laid_none : (d : List ℕ) (at : ℕ) → laid d at [] ≡ d
 unfolding laid
 laid_none d at = ap (λ m. take at d ++ drop m d) (let e : at + 0 ≡ at = omega arith in e) ∙ take-append-drop at d
 
--- two writes, the second behind the first: what was written is also known as xs' and ys'
-pub laid_two : (d once twice : List ℕ) (at k : ℕ) (xs ys xs' ys' : List ℕ) → once ≡ laid d at xs → twice ≡ laid once k ys → k ≡ at + length xs → at ≤ length d → xs ≡ xs' → ys ≡ ys' → twice ≡ laid d at (xs' ++ ys')
-laid_two d once twice at k xs ys xs' ys' first second e h x y =
-    second ∙ ap (λ l. laid l k ys) first ∙ laid_more d at k xs ys e h ∙ ap (λ l. laid d at (l ++ ys)) x ∙ ap (λ l. laid d at (xs' ++ l)) y
+pub laid_first : (d bs : List ℕ) → laid d 0 bs ≡ bs ++ drop (length bs) d
+unfolding laid
+laid_first d bs = ap (λ n. bs ++ drop n d) (let e : 0 + length bs ≡ length bs = omega arith in e)

@@ -1,6 +1,6 @@
 -- The contents as they are written, one entry more. Assumes nothing.
-use Rattle.std.proofs.Common.{◌≡◌, ℕ, ◌+◌, ◌*◌, ◌<◌, ◌≤◌, List, [], ◌∷◌, ◌++◌, length, get_or, take, drop, sym, refl, ap, ◌∙◌, arith}
-use Rattle.std.proofs.lemmas.List.{append_assoc, length-append, length-take-le, take-append-drop, take_at, drop_at, drop_more, drop-drop}
+use Rattle.std.proofs.Common.{◌≡◌, ℕ, ◌+◌, ◌*◌, ◌<◌, List, [], ◌∷◌, ◌++◌, length, get_or, take, drop, sym, refl, ap, ◌∙◌, arith}
+use Rattle.std.proofs.lemmas.List.{append_assoc, length-append, drop_at, drop_more, drop-drop}
 use Rattle.events.specs.declared.Event.{Event}
 use Rattle.trace.specs.Words.{bytes_of}
 use Rattle.trace.specs.File.{body, contents}
@@ -29,18 +29,13 @@ length_contents at (c ∷ counts) events =
     let rest = length_contents (at + n) counts (drop c events) in
     omega (arith, length_entry at n)
 
--- the entry of section i + 1, with what follows it
-pub contents_more : (at done i : ℕ) (counts : List ℕ) (events : List Event) → i < length counts → contents at (drop i counts) (drop done events) ≡ entry_bytes at (length (body (take (get_or counts i 0) (drop done events)))) ++ contents (at + length (body (take (get_or counts i 0) (drop done events)))) (drop (i + 1) counts) (drop (done + get_or counts i 0) events)
-contents_more at done i counts events h =
+-- the entry of the next section, with what follows it
+pub contents_next : (at i size : ℕ) (counts : List ℕ) (left : List Event) → i < length counts → size ≡ length (body (take (get_or counts i 0) left)) → contents at (drop i counts) left ≡ entry_bytes at size ++ contents (at + size) (drop (i + 1) counts) (drop (get_or counts i 0) left)
+contents_next at i size counts left h e =
     let c = get_or counts i 0 in
-    let n = length (body (take c (drop done events))) in
-    ap (λ l. contents at l (drop done events)) (drop_more counts i 0 h) ∙ contents_cons at c (drop (i + 1) counts) (drop done events) ∙ ap (λ l. entry_bytes at n ++ contents (at + n) (drop (i + 1) counts) l) (drop-drop c done events)
-
--- a part of a list, where what is left from k on begins with it
-pub part_taken : (all part rest : List ℕ) (k : ℕ) → k ≤ length all → drop k all ≡ part ++ rest → take (k + length part) all ≡ take k all ++ part
-part_taken all part rest k h e =
-    let cut = sym (take-append-drop k all) ∙ ap (λ l. take k all ++ l) e ∙ sym (append_assoc (take k all) part rest) in
-    ap (take (k + length part)) cut ∙ take_at (take k all ++ part) rest (k + length part) (length-append (take k all) part ∙ ap (λ n. n + length part) (length-take-le k all h))
+    ap (λ l. contents at l left) (drop_more counts i 0 h)
+    ∙ contents_cons at c (drop (i + 1) counts) left
+    ∙ ap (λ n. entry_bytes at n ++ contents (at + n) (drop (i + 1) counts) (drop c left)) (sym e)
 
 pub part_left : (all part rest : List ℕ) (k : ℕ) → drop k all ≡ part ++ rest → drop (k + length part) all ≡ rest
 part_left all part rest k e = sym (drop-drop (length part) k all) ∙ ap (drop (length part)) e ∙ drop_at part rest (length part) refl

@@ -6,6 +6,7 @@ pub mod Refusals
 pub mod Answered
 pub mod Wholes
 pub mod Buffers
+pub mod Sheets
 pub mod Events
 pub mod Bodies
 pub mod Contents

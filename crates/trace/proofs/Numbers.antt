@@ -3,7 +3,8 @@ use Rattle.std.proofs.Common.{◌≡◌, ℕ, zero, suc, ◌+◌, ◌*◌, ◌/�
 use native.Mathlib.Nat.{div-div-eq-div-mul}
 use Rattle.std.proofs.lemmas.Nat.{div_below}
 use Rattle.std.proofs.ByRecursion.{All-take, All-drop}
-use Rattle.std.proofs.lemmas.List.{length-drop, length-take-le, drop_more}
+use Rattle.std.proofs.lemmas.List.{length-drop, length-take-le, drop_more, get_or-take, get_or-drop}
+use Rattle.std.specs.Int.{from_le_bytes, w16, w32, w64}
 use Rattle.trace.specs.Words.{number, bytes_of, word, Bytes}
 
 pub word_none : (bytes : List ℕ) (i : ℕ) → word 0 bytes i ≡ 0
@@ -21,6 +22,47 @@ pub word_pair : (k : ℕ) (bytes : List ℕ) (i j n : ℕ) → i + 2 ≤ length 
 word_pair k bytes i j n h e f =
     let low = word_more (suc k) bytes i j (omega arith) e in
     let high = word_more k bytes j n (omega arith) (omega arith) in
+    omega arith
+
+-- the bytes of a number as they stand in a list
+chunk_at : (bytes : List ℕ) (n i k j : ℕ) → k < n → j ≡ i + k → get_or (take n (drop i bytes)) k 0 ≡ get_or bytes j 0
+chunk_at bytes n i k j h e = get_or-take n (drop i bytes) k 0 h ∙ get_or-drop i bytes k 0 ∙ ap (λ m. get_or bytes m 0) (sym e)
+
+-- the numbers that `from_le_bytes` makes of them
+pub word_2 : (bytes : List ℕ) (i : ℕ) → i + 2 ≤ length bytes → from_le_bytes w16 (take 2 (drop i bytes)) ≡ word 2 bytes i
+word_2 bytes i h =
+    let a = chunk_at bytes 2 i 0 i (omega arith) (omega arith) in
+    let b = chunk_at bytes 2 i 1 (i + 1) (omega arith) refl in
+    let pair = word_pair 0 bytes i (i + 1) (i + 2) h refl refl in
+    let none = word_none bytes (i + 2) in
+    omega arith
+
+pub word_4 : (bytes : List ℕ) (i : ℕ) → i + 4 ≤ length bytes → from_le_bytes w32 (take 4 (drop i bytes)) ≡ word 4 bytes i
+word_4 bytes i h =
+    let a = chunk_at bytes 4 i 0 i (omega arith) (omega arith) in
+    let b = chunk_at bytes 4 i 1 (i + 1) (omega arith) refl in
+    let c = chunk_at bytes 4 i 2 (i + 2) (omega arith) refl in
+    let d = chunk_at bytes 4 i 3 (i + 3) (omega arith) refl in
+    let low = word_pair 2 bytes i (i + 1) (i + 2) (omega arith) refl refl in
+    let high = word_pair 0 bytes (i + 2) (i + 3) (i + 4) (omega arith) (omega arith) (omega arith) in
+    let none = word_none bytes (i + 4) in
+    omega arith
+
+pub word_8 : (bytes : List ℕ) (i : ℕ) → i + 8 ≤ length bytes → from_le_bytes w64 (take 8 (drop i bytes)) ≡ word 8 bytes i
+word_8 bytes i h =
+    let a = chunk_at bytes 8 i 0 i (omega arith) (omega arith) in
+    let b = chunk_at bytes 8 i 1 (i + 1) (omega arith) refl in
+    let c = chunk_at bytes 8 i 2 (i + 2) (omega arith) refl in
+    let d = chunk_at bytes 8 i 3 (i + 3) (omega arith) refl in
+    let e = chunk_at bytes 8 i 4 (i + 4) (omega arith) refl in
+    let f = chunk_at bytes 8 i 5 (i + 5) (omega arith) refl in
+    let g = chunk_at bytes 8 i 6 (i + 6) (omega arith) refl in
+    let k = chunk_at bytes 8 i 7 (i + 7) (omega arith) refl in
+    let first = word_pair 6 bytes i (i + 1) (i + 2) (omega arith) refl refl in
+    let second = word_pair 4 bytes (i + 2) (i + 3) (i + 4) (omega arith) (omega arith) (omega arith) in
+    let third = word_pair 2 bytes (i + 4) (i + 5) (i + 6) (omega arith) (omega arith) (omega arith) in
+    let fourth = word_pair 0 bytes (i + 6) (i + 7) (i + 8) (omega arith) (omega arith) (omega arith) in
+    let none = word_none bytes (i + 8) in
     omega arith
 
 pub length_bytes_of : (k n : ℕ) → length (bytes_of k n) ≡ k

@@ -7,7 +7,7 @@ use Rattle.trace.specs.declared.fault.TraceFault.{TraceFault}
 use Rattle.trace.specs.declared.place.Place.{Place}
 use Rattle.trace.specs.Codec.{size}
 use Rattle.trace.specs.Words.{word}
-use Rattle.trace.specs.Layout.{count, entry_offset, body_end, good_entry, bad_entry, entries, opening, ended, section_at}
+use Rattle.trace.specs.Layout.{count, entry_offset, entry_length, body_end, good_entry, bad_entry, entries, opening, ended, section_at}
 use Rattle.trace.specs.Reading.{origin, placed, Stands}
 use Rattle.trace.proofs.Entries.{body_end_none, body_end_more}
 
@@ -72,13 +72,11 @@ module _ {bytes : List ℕ} (file : Opened bytes) where
   within s h = bounded bytes file.room file.bodies s h
 
   -- a body ends its length behind its offset
-  pub end_by_entry : (s at : ℕ) → 0 < s → s ≤ count bytes → at ≡ 8 * s - 4 → word 4 bytes at + word 4 bytes (at + 4) ≡ body_end bytes s
-  end_by_entry s at some few e =
-      let m = s - 1 in
-      let from = ap (word 4 bytes) (let f : at ≡ 4 + 8 * m = omega arith in f) ∙ file.offsets m (omega arith) in
-      let long = ap (word 4 bytes) (let f : at + 4 ≡ 8 + 8 * m = omega arith in f) in
-      let end = body_end_more bytes m in
-      let same = ap (body_end bytes) (let f : m + 1 ≡ s = omega arith in f) in
+  pub end_by_entry : (s : ℕ) → 0 < s → s ≤ count bytes → entry_offset bytes (s - 1) + entry_length bytes (s - 1) ≡ body_end bytes s
+  end_by_entry s some few =
+      let from = file.offsets (s - 1) (omega arith) in
+      let end = body_end_more bytes (s - 1) in
+      let same = ap (body_end bytes) (let f : s - 1 + 1 ≡ s = omega arith in f) in
       omega arith
 
 -- the sections end one after another
@@ -124,7 +122,7 @@ section_is bytes s b some few low high =
     let all' = subst (λ n. ended bytes n b ≡ m) f all in
     omega arith
 
-none_from : {A : Type 0} (o : Option A) → is_some o ≡ false → o ≡ None
+pub none_from : {A : Type 0} (o : Option A) → is_some o ≡ false → o ≡ None
 none_from None e = refl
 none_from (Some x) e = absurd (true≢false e)
 

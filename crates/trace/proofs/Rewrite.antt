@@ -5,6 +5,7 @@ use Rattle.std.proofs.lemmas.List.{map-append, length-append, length-drop, lengt
 use Rattle.std.proofs.lemmas.List.Sums.{sum_by-cons}
 use Rattle.std.proofs.lemmas.Bool.{cases_eq, cases_lt, eq-eqb, ne_eqb, cond-true, cond-false, lt-leb, cond_both}
 use Rattle.std.specs.List.{AllByRecursion}
+use Rattle.std.proofs.Math.Seq.{take-add}
 use Rattle.events.specs.declared.Event.{Event}
 use Rattle.events.specs.declared.Action.TheVariants.{Commit}
 use Rattle.trace.specs.declared.place.Place.{Place}
@@ -20,7 +21,6 @@ use Rattle.trace.proofs.Opened.{Opened, opened, within, section_is, size_some}
 use Rattle.trace.proofs.Steps.{taken_ok}
 use Rattle.trace.proofs.Bodies.{body_none, body_cons}
 use Rattle.trace.proofs.Contents.{entry_bytes, contents_none, contents_cons}
-use Rattle.trace.proofs.Writing.{take_add}
 
 -- an action with one operand stands as its kind and that operand
 Single : ℕ → ℕ → Type 0
@@ -62,7 +62,7 @@ module _ (bs : List ℕ) (all : Bytes bs) where
       let act : action_at bs k (b + 2) ≡ Commit (set_at bs (b + 2)) (set_at bs (b + 2 + 8)) = cond-true (eqb k 9) _ _ yes in
       let sets = bytes_again bs 8 (b + 2) all (omega arith) in
       let sets' = bytes_again bs 8 (b + 2 + 8) all (omega arith) in
-      let join = sym (take_add 8 8 (drop (b + 2) bs) ∙ ap (λ l. take 8 (drop (b + 2) bs) ++ take 8 l) (drop-drop 8 (b + 2) bs)) in
+      let join = sym (take-add 8 8 (drop (b + 2) bs) ∙ ap (λ l. take 8 (drop (b + 2) bs) ++ take 8 l) (drop-drop 8 (b + 2) bs)) in
       let back = first_byte bs b (b + 1) 17 (omega arith) refl ∙ ap (λ l. k ∷ l) (first_byte bs (b + 1) (b + 2) 16 (omega arith) (omega arith)) in
       ap (λ a. kind a ∷ (t ∷ operands a)) act
       ∙ ap (λ n. n ∷ (t ∷ (bytes_of 8 (word 8 bs (b + 2)) ++ bytes_of 8 (word 8 bs (b + 2 + 8))))) (sym nine)
@@ -181,7 +181,7 @@ module _ (bs : List ℕ) (all : Bytes bs) (opens : Opened bs) where
       let offset = bytes_again bs 4 (4 + 8 * s) all (omega arith) in
       let size = bytes_again bs 4 (8 + 8 * s) all (omega arith) in
       let add : 4 + 8 * s + 4 ≡ 8 + 8 * s = omega arith in
-      ap (λ l. l ++ bytes_of 4 (entry_length bs s)) offset ∙ ap (λ l. take 4 (drop (4 + 8 * s) bs) ++ l) size ∙ sym (take_add 4 4 (drop (4 + 8 * s) bs) ∙ ap (λ l. take 4 (drop (4 + 8 * s) bs) ++ take 4 l) (drop-drop 4 (4 + 8 * s) bs ∙ ap (λ m. drop m bs) add))
+      ap (λ l. l ++ bytes_of 4 (entry_length bs s)) offset ∙ ap (λ l. take 4 (drop (4 + 8 * s) bs) ++ l) size ∙ sym (take-add 4 4 (drop (4 + 8 * s) bs) ∙ ap (λ l. take 4 (drop (4 + 8 * s) bs) ++ take 4 l) (drop-drop 4 (4 + 8 * s) bs ∙ ap (λ m. drop m bs) add))
 
   -- the contents, from the entry of section s + 1 on
   contents_again : (counts : List ℕ) (es : List Event) (p : Place) (s : ℕ) → s + length counts ≡ count bs → sum counts ≡ length es → p.byte ≡ body_end bs s → body_end bs 0 ≤ p.byte → Reads bs p (tagged (suc s) counts es) None → contents (body_end bs s) counts es ≡ take (8 * length counts) (drop (4 + 8 * s) bs)
@@ -208,7 +208,7 @@ module _ (bs : List ℕ) (all : Bytes bs) (opens : Opened bs) where
       ∙ ap (λ l. l ++ contents (body_end bs s + n) counts (drop c es)) (entry_again s (omega arith))
       ∙ ap (λ m. take 8 (drop (4 + 8 * s) bs) ++ contents m counts (drop c es)) next
       ∙ ap (λ l. take 8 (drop (4 + 8 * s) bs) ++ l) (rest ∙ ap (λ m. take (8 * length counts) (drop m bs)) there ∙ ap (take (8 * length counts)) (sym (drop-drop 8 (4 + 8 * s) bs)))
-      ∙ sym (take_add 8 (8 * length counts) (drop (4 + 8 * s) bs))
+      ∙ sym (take-add 8 (8 * length counts) (drop (4 + 8 * s) bs))
       ∙ ap (λ m. take m (drop (4 + 8 * s) bs)) (sym whole)
 
 -- a file that reads whole, written again, is the same bytes

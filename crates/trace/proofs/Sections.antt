@@ -1,15 +1,17 @@
 -- Reading on, event by event and section by section. Assumes nothing.
-use Rattle.std.proofs.Common.{◌≡◌, ℕ, suc, ◌+◌, ◌-◌, ◌<◌, ◌≤◌, List, [], ◌∷◌, ◌++◌, length, take, drop, Some, None, Ok, Err, sum, Option, sym, refl, ap, ◌∙◌, subst, inr, arith}
+use Rattle.std.proofs.Common.{◌≡◌, ℕ, Bool, suc, ◌+◌, ◌-◌, ◌<◌, ◌≤◌, List, [], ◌∷◌, ◌++◌, length, take, drop, Some, None, Ok, Err, sum, Option, Result, sym, refl, ap, ◌∙◌, subst, inr, arith}
 use Rattle.std.proofs.lemmas.List.{append-nil, append_assoc, length-append, length-drop, length_push, map_push, nil_from_length, take_all, take-append-le, drop-append-le}
 use Rattle.std.proofs.lemmas.List.Sums.{sum_by-cons, sum_by_push}
 use Rattle.events.specs.declared.Event.{Event}
 use Rattle.trace.specs.declared.fault.Refusal.{Refusal}
+use Rattle.trace.specs.declared.fault.Site.{Site}
 use Rattle.trace.specs.declared.place.Place.{Place}
 use Rattle.trace.specs.declared.whole.ReadError.{ReadError}
 use Rattle.trace.specs.declared.whole.ReadError.TheVariants.{Refused, Memory}
 use Rattle.trace.specs.Layout.{count, body_end, opening, section_at}
-use Rattle.trace.specs.Reading.{origin, taken, moved}
-use Rattle.trace.specs.Whole.{Reads, in_section, tagged, Contains, Onward, SectionRead, WholeRead}
+use Rattle.trace.specs.Reading.{origin, taken, moved, found}
+use Rattle.trace.specs.Handing.{HandedAs}
+use Rattle.trace.specs.Whole.{Reads, in_section, tagged, Contains, Onward, Pushed, SectionRead, WholeRead}
 use Rattle.trace.proofs.Entries.{body_end_none}
 use Rattle.trace.proofs.Opened.{opened}
 
@@ -50,6 +52,24 @@ module _ {bytes : List ℕ} {s : ℕ} {p q : Place} {old all : List Event} (sofa
   pub sofar_fails : (f : Refusal) → taken bytes q ≡ Err f → (ts : List (ℕ × Event)) × Reads bytes p ts (Some f)
   sofar_fails f t = (in_section s sofar.events ++ [], sofar.onward [] (Some f) (reads_fail bytes q f more t))
 
+-- an event was handed to a taker that keeps each, or it was refused, or there was no memory
+module _ {T : Type 0} (items : T → List Event) where
+  abbrev pub Pushes : T → Event → Site → Result (Unit {0}) ReadError → T → Type 0
+  Pushes t e _ r t' = Pushed (items t) e r (items t')
+
+  abbrev pub Converts : Refusal → ReadError → Type 0
+  Converts f y = y ≡ Refused f
+
+  pub pushed_ok : (o : Result Event Refusal) (at : Site) (stay move q : Place) (t t' : T) (b : Bool) → HandedAs Pushes Converts (found o) at stay move t t' q (Ok b) → (e : Event) × (o ≡ Ok e) × (items t' ≡ items t ++ (e ∷ [])) × (q ≡ move)
+  pushed_ok (Err f) at stay move q t t' b h = absurd h.0
+  pushed_ok (Ok e) at stay move q t t' b (Ok x, pushed, tells, goes) = (e, refl, pushed, goes)
+  pushed_ok (Ok e) at stay move q t t' b (Err y, pushed, tells, goes) = absurd (let z : ◌≡◌ {A = ℕ} 0 1 = cc in omega arith)
+
+  pub pushed_err : (o : Result Event Refusal) (at : Site) (stay move q : Place) (t t' : T) (y : ReadError) → (P : ReadError → Type 0) → HandedAs Pushes Converts (found o) at stay move t t' q (Err y) → ((f : Refusal) → o ≡ Err f → P (Refused f)) → P Memory → P y
+  pushed_err (Err f) at stay move q t t' y P h refused memory = subst P (sym h.0) (refused f refl)
+  pushed_err (Ok e) at stay move q t t' y P (Ok x, pushed, tells, goes) refused memory = absurd (let z : ◌≡◌ {A = ℕ} 0 1 = cc in omega arith)
+  pushed_err (Ok e) at stay move q t t' y P (Err x, pushed, tells, goes) refused memory = let same : y ≡ x = cc in subst P (sym (same ∙ pushed)) memory
+
 -- one section more
 tagged_push : (s c : ℕ) (counts : List ℕ) (es more : List Event) → sum counts ≡ length es → c ≡ length more → tagged s (counts ++ (c ∷ [])) (es ++ more) ≡ tagged s counts es ++ in_section (s + length counts) more
 unfolding tagged
@@ -68,14 +88,14 @@ tagged_push s c (x ∷ counts) es more e n =
     ∙ sym (append_assoc (in_section s (take x es)) (tagged (suc s) counts (drop x es)) (in_section (suc s + length counts) more))
     ∙ ap (λ k. (in_section s (take x es) ++ tagged (suc s) counts (drop x es)) ++ in_section k more) (omega arith)
 
--- i sections are read, and the reader has come to q
-pub record Through (bytes : List ℕ) (i : ℕ) (q : Place) (counts : List ℕ) (events : List Event) : Type 0 where
-  pub place : q.byte ≡ body_end bytes i
-  pub many : length counts ≡ i
+-- the sections before s are read, and the reader has come to q
+pub record Through (bytes : List ℕ) (s : ℕ) (q : Place) (counts : List ℕ) (events : List Event) : Type 0 where
+  pub place : q.byte ≡ body_end bytes (s - 1)
+  pub many : 1 + length counts ≡ s
   pub total : sum counts ≡ length events
   pub onward : (ts : List (ℕ × Event)) (o : Option Refusal) → Reads bytes q ts o → Reads bytes (origin bytes) (tagged 1 counts events ++ ts) o
 
-pub through_none : (bytes : List ℕ) (q : Place) → q ≡ origin bytes → Through bytes 0 q [] []
+pub through_none : (bytes : List ℕ) (q : Place) → q ≡ origin bytes → Through bytes 1 q [] []
 unfolding tagged
 through_none bytes q e = record {
   place = ap (λ p. p.byte) e ∙ sym (body_end_none bytes);
@@ -84,34 +104,38 @@ through_none bytes q e = record {
   onward = λ ts o r. subst (λ p. Reads bytes p ts o) e r;
 }
 
-module _ {bytes : List ℕ} {i : ℕ} {q : Place} {counts : List ℕ} {events : List Event} (through : Through bytes i q counts events) where
-  pub through_more : (q' : Place) (counts' : List ℕ) (events' es : List Event) (c : ℕ) → q'.byte ≡ body_end bytes (i + 1) → events' ≡ events ++ es → Onward bytes (i + 1) q q' es → c ≡ length events' - length events → counts' ≡ counts ++ (c ∷ []) → Through bytes (i + 1) q' counts' events'
-  through_more q' counts' events' es c place more on n push =
+module _ {bytes : List ℕ} {s : ℕ} {q : Place} {counts : List ℕ} {events : List Event} (through : Through bytes s q counts events) where
+  -- the section s is read
+  pub through_more : (held : List ℕ) (q' : Place) (counts' : List ℕ) (events' : List Event) (x : Unit {0}) (c : ℕ) → held ≡ bytes → SectionRead held s q q' events events' (Ok x) → c ≡ length events' - length events → counts' ≡ counts ++ (c ∷ []) → Through bytes (s + 1) q' counts' events'
+  through_more held q' counts' events' x c same (some, place, (es, more, on)) n push =
       let long = ap length more ∙ length-append events es in
       let size : c ≡ length es = omega arith in
-      let number : 1 + length counts ≡ i + 1 = omega (arith, through.many) in
-      let tags = ap (λ l. tagged 1 l events') push ∙ ap (tagged 1 (counts ++ (c ∷ []))) more ∙ tagged_push 1 c counts events es through.total size ∙ ap (λ k. tagged 1 counts events ++ in_section k es) number in
+      let before : s ≡ s + 1 - 1 = omega arith in
+      let tags = ap (λ l. tagged 1 l events') push ∙ ap (tagged 1 (counts ++ (c ∷ []))) more ∙ tagged_push 1 c counts events es through.total size ∙ ap (λ k. tagged 1 counts events ++ in_section k es) through.many in
       let sums = ap sum push ∙ sum_by_push (λ y. y) counts c in
+      let on' = subst (λ b. Onward b s q q' es) same on in
       record {
-        place = place;
+        place = place ∙ ap (λ b. body_end b s) same ∙ ap (body_end bytes) before;
         many = let m = ap length push ∙ length_push counts c in omega (arith, through.many);
         total = omega (arith, through.total);
-        onward = λ ts o r. subst (λ l. Reads bytes (origin bytes) l o) (sym (ap (λ l. l ++ ts) tags ∙ append_assoc (tagged 1 counts events) (in_section (i + 1) es) ts)) (through.onward (in_section (i + 1) es ++ ts) o (on ts o r));
+        onward = λ ts o r. subst (λ l. Reads bytes (origin bytes) l o) (sym (ap (λ l. l ++ ts) tags ∙ append_assoc (tagged 1 counts events) (in_section s es) ts)) (through.onward (in_section s es ++ ts) o (on' ts o r));
       }
 
   pub through_fails : (f : Refusal) → ((ts : List (ℕ × Event)) × Reads bytes q ts (Some f)) → (ts : List (ℕ × Event)) × Reads bytes (origin bytes) ts (Some f)
   through_fails f r = (tagged 1 counts events ++ r.0, through.onward r.0 (Some f) r.1)
 
   -- the last section is read
-  pub through_all : opening bytes ≡ None → i ≡ count bytes → Contains bytes counts events
-  through_all e last = record {
-    opens = e;
-    sections = through.many ∙ last;
-    total = through.total;
-    reads = subst (λ l. Reads bytes (origin bytes) l None) (append-nil (tagged 1 counts events)) (through.onward [] None (reads_end bytes q (let w = (opened bytes e).whole in let s = ap (body_end bytes) last in omega (arith, through.place))));
-  }
+  pub through_all : opening bytes ≡ None → s ≡ count bytes + 1 → Contains bytes counts events
+  through_all e last =
+      let all : s - 1 ≡ count bytes = omega arith in
+      record {
+        opens = e;
+        sections = omega (arith, through.many);
+        total = through.total;
+        reads = subst (λ l. Reads bytes (origin bytes) l None) (append-nil (tagged 1 counts events)) (through.onward [] None (reads_end bytes q (let w = (opened bytes e).whole in let s = ap (body_end bytes) all in omega (arith, through.place))));
+      }
 
 -- what stops a section stops the whole
-pub whole_fails : (bytes : List ℕ) (i s : ℕ) (q q' : Place) (counts : List ℕ) (events old all : List Event) → opening bytes ≡ None → Through bytes i q counts events → (y : ReadError) → SectionRead bytes s q q' old all (Err y) → WholeRead bytes (Err y)
-whole_fails bytes i s q q' counts events old all e through (Refused f) r = inr (e, through_fails through f r)
-whole_fails bytes i s q q' counts events old all e through Memory r = tt
+pub whole_fails : (bytes : List ℕ) (s : ℕ) (q q' : Place) (counts : List ℕ) (events old all : List Event) → opening bytes ≡ None → Through bytes s q counts events → (y : ReadError) → SectionRead bytes s q q' old all (Err y) → WholeRead bytes (Err y)
+whole_fails bytes s q q' counts events old all e through (Refused f) r = inr (e, through_fails through f r)
+whole_fails bytes s q q' counts events old all e through Memory r = tt

@@ -1,6 +1,6 @@
 -- What reading on answers, case by case. Assumes nothing.
 use Rattle.std.proofs.Common.{◌≡◌, ℕ, ◌+◌, ◌-◌, ◌<◌, ◌≤◌, Bool, true, false, cond, eqb, ltb, leb, List, length, get_or, Some, None, Ok, Err, Option, Result, sym, refl, ap, ◌∙◌, arith}
-use Rattle.std.proofs.lemmas.Bool.{lt-ltb, ltb-false, leb-false}
+use Rattle.std.proofs.lemmas.Bool.{ltb-false, leb-false}
 use Rattle.events.specs.declared.Event.{Event}
 use Rattle.trace.specs.declared.fault.TraceFault.{TraceFault}
 use Rattle.trace.specs.declared.fault.TraceFault.TheVariants.{Kind, Overrun}
@@ -33,16 +33,21 @@ next_refused bytes p f e =
       ap (λ r. cond (eqb p.byte 0) (entered bytes r p) p) o ∙ either (eqb p.byte 0) p,
     )
 
--- an event is refused: q is where the reader stands inside the file, and held is what it reads there
-pub next_faulty : (bytes held : List ℕ) (p q : Place) (n : ℕ) (f : Refusal) → held ≡ bytes → q ≡ inside bytes p → sections_or bytes (opening bytes) ≡ Ok n → q.byte < length held → taken held q ≡ Err f → (next bytes p ≡ Err f) × (after bytes p ≡ q)
-next_faulty bytes held p q n f same in' e h t =
-    let o = opened_by bytes (opening bytes) n e in
-    let long = ap length same in
-    let yes = lt-ltb q.byte (length bytes) (omega arith) in
-    let read = sym (ap (λ b. taken b q) same) ∙ t in (
-      ap (λ r. unless_refused r Err (onward bytes (inside bytes p))) o ∙ ap (onward bytes) (sym in') ∙ ap (λ b. cond b (found (taken bytes q)) (Ok None)) yes ∙ ap found read,
-      ap (λ r. unless_refused r (λ _. p) (behind bytes (inside bytes p))) o ∙ ap (behind bytes) (sym in') ∙ ap (λ b. cond b (kept (taken bytes q) q (moved bytes q)) q) yes ∙ ap (λ r. kept r q (moved bytes q)) read,
-    )
+behind_stays : (b : Bool) (r : Result Event Refusal) (q m : Place) → ((e : Event) → cond b (found r) (Ok None) ≡ Ok (Some e) → ⊥) → cond b (kept r q m) q ≡ q
+behind_stays true (Ok e) q m none = absurd (none e refl)
+behind_stays true (Err f) q m none = refl
+behind_stays false r q m none = refl
+
+after_stays_as : (bytes : List ℕ) (p : Place) (o : Option Refusal) → opening bytes ≡ o → ((e : Event) → next bytes p ≡ Ok (Some e) → ⊥) → after bytes p ≡ inside bytes p
+after_stays_as bytes p (Some f) o none =
+    ap (λ r. unless_refused r (λ _. p) (behind bytes (inside bytes p))) o ∙ sym (ap (λ r. cond (eqb p.byte 0) (entered bytes r p) p) o ∙ either (eqb p.byte 0) p)
+after_stays_as bytes p None o none =
+    let q = inside bytes p in
+    ap (λ r. unless_refused r (λ _. p) (behind bytes q)) o ∙ behind_stays (ltb q.byte (length bytes)) (taken bytes q) q (moved bytes q) (λ e h. none e (ap (λ r. unless_refused r Err (onward bytes q)) o ∙ h))
+
+-- a reader that read no event stays where it was inside the file
+pub after_stays : (bytes : List ℕ) (p : Place) → ((e : Event) → next bytes p ≡ Ok (Some e) → ⊥) → after bytes p ≡ inside bytes p
+after_stays bytes p none = after_stays_as bytes p (opening bytes) refl none
 
 ok_of : (x y : Bool) (f g : TraceFault) (d e : Event) → cond {A = Result Event TraceFault} x (Err f) (cond y (Err g) (Ok d)) ≡ Ok e → (x ≡ false) × (y ≡ false) × (d ≡ e)
 ok_of true y f g d e h = absurd (let z : ◌≡◌ {A = ℕ} 0 1 = cc in omega arith)

@@ -1,9 +1,12 @@
 pub mod Numbers
 pub mod Words
+pub mod Kinds
 pub mod Codec
 pub mod Layout
 pub mod Reading
+pub mod Texts
 pub mod Refusals
 pub mod Handing
 pub mod File
+pub mod Sheets
 pub mod Whole

@@ -1,56 +1,44 @@
 // One event as bytes.
 ghost use Rattle.std.specs.Prelude.{◌≡◌, ◌+◌, ◌<◌, ◌≤◌, true, length, is_ok, slice_index};
-ghost use Rattle.trace.specs.Codec.{simple, size, action_at, event_at};
+ghost use Rattle.trace.specs.Codec.{size, set_at, action_at, event_at};
+ghost use Rattle.trace.specs.Kinds.{code};
 
 use crate::fault::TraceFault;
+use crate::kind::Kind;
 use crate::place::Place;
-use crate::words::word64;
+use crate::words::chunk;
 use events::{Action, Event, PlaceSet};
 
-// The kind with two sets for operands, and the number of kinds.
-const COMMIT: u8 = 9;
-
-const KINDS: u8 = 10;
-
-// The action of a kind with one operand.
-fn single(kind: u8, operand: u8) -> Action
-    ensures { result ≡ simple kind operand }
+// The set whose eight bytes begin at `at`.
+fn read_set(bytes: &[u8], at: usize) -> PlaceSet
+    requires { at + 8 ≤ length bytes.now }
+    ensures { result ≡ set_at bytes.now at }
 {
-    match kind {
-        0 => Action::Read { place: operand },
-        1 => Action::Write { place: operand },
-        2 => Action::Acquire { lock: operand },
-        3 => Action::Release { lock: operand },
-        4 => Action::ReadFlag { flag: operand },
-        5 => Action::WriteFlag { flag: operand },
-        6 => Action::Fork { child: operand },
-        7 => Action::Join { child: operand },
-        _ => Action::Allocate { object: operand },
+    PlaceSet {
+        word: u64::from_le_bytes(chunk(bytes, at)),
     }
 }
 
-// How many bytes an event of the kind takes.
-fn size_of(kind: u8) -> usize
-    ensures { result ≡ size kind }
-{
-    if kind == COMMIT { 18 } else { 3 }
-}
-
 // The action of the kind whose operands begin at `at`.
-fn read_action(bytes: &[u8], kind: u8, at: usize) -> Action
-    requires { at + size kind ≤ length bytes.now + 2 }
-    ensures { result ≡ action_at bytes.now kind at }
+fn read_action(bytes: &[u8], kind: Kind, at: usize) -> Action
+    requires { at + size (code kind) ≤ length bytes.now + 2 }
+    ensures { result ≡ action_at bytes.now (code kind) at }
 {
-    if kind == COMMIT {
-        let reads = PlaceSet {
-            word: word64(bytes, at),
-        };
-        let writes = PlaceSet {
-            word: word64(bytes, at + 8),
-        };
-        Action::Commit { reads, writes }
-    } else {
-        single(kind, bytes[at])
+    let operand = bytes[at];
+    match kind {
+        Kind::Read => Action::Read { place: operand },
+        Kind::Write => Action::Write { place: operand },
+        Kind::Acquire => Action::Acquire { lock: operand },
+        Kind::Release => Action::Release { lock: operand },
+        Kind::ReadFlag => Action::ReadFlag { flag: operand },
+        Kind::WriteFlag => Action::WriteFlag { flag: operand },
+        Kind::Fork => Action::Fork { child: operand },
+        Kind::Join => Action::Join { child: operand },
+        Kind::Allocate => Action::Allocate { object: operand },
+        Kind::Commit => Action::Commit {
+            reads: read_set(bytes, at),
+            writes: read_set(bytes, at + 8),
+        },
     }
 }
 
@@ -65,12 +53,9 @@ pub(crate) fn read_event(bytes: &[u8], at: &mut Place, end: usize) -> Result<Eve
     ensures section { at.new.section ≡ at.old.section }
 {
     let first = at.byte;
-    let kind = bytes[first];
     at.byte += 1;
-    if kind >= KINDS {
-        return Err(TraceFault::Kind);
-    }
-    let size = size_of(kind);
+    let kind = Kind::try_from(bytes[first])?;
+    let size = kind.size();
     if end - first < size {
         return Err(TraceFault::Overrun);
     }

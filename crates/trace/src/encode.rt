@@ -1,105 +1,111 @@
-// Events, header and contents put into a buffer.
-ghost use Rattle.std.specs.Prelude.{◌≡◌, ◌+◌, ◌*◌, ◌^◌, ◌<◌, ◌≤◌, [], ◌∷◌, ◌++◌, length};
+// Header, contents and events, put into a buffer one behind another.
+ghost use Rattle.std.specs.Prelude.{◌≡◌, ◌+◌, ◌*◌, ◌<◌, ◌≤◌, ◌++◌, length, sum};
 ghost use Rattle.std.specs.List.{AllByRecursion};
 ghost use Rattle.trace.specs.Words.{bytes_of};
-ghost use Rattle.trace.specs.Codec.{event_bytes, Words};
-ghost use Rattle.trace.specs.File.{body, laid};
+ghost use Rattle.trace.specs.Codec.{operands, event_bytes, Words};
+ghost use Rattle.trace.specs.File.{body, contents};
+ghost use Rattle.trace.specs.Sheets.{Room, Adds};
 
-use events::{Action, Event, PlaceSet};
+use crate::kind::Kind;
+use crate::sheet::Sheet;
+use events::{Action, Event};
 
 // How many bytes the event takes.
-pub(crate) fn event_size(event: &Event) -> usize
+fn event_size(event: &Event) -> usize
     ensures value { result ≡ length (event_bytes event.now) }
     ensures bound { result ≤ 18 }
 {
-    match event.action {
-        Action::Commit { .. } => 18,
-        _ => 3,
+    Kind::from(event.action).size()
+}
+
+// How many bytes the events take.
+pub(crate) fn body_size(events: &[Event]) -> usize
+    requires { length events.now ≤ 65536 }
+    ensures { result ≡ length (body events.now) }
+{
+    events.iter().map(event_size).sum()
+}
+
+impl Sheet<'_> {
+    // Edition and number of sections.
+    pub(crate) fn put_header(&mut self, sections: u16)
+        requires { Room self.old 4 }
+        ensures { Adds self.old (bytes_of 2 1 ++ bytes_of 2 sections) self.new }
+    {
+        let edition: u16 = 1;
+        self.put(&edition.to_le_bytes());
+        self.put(&sections.to_le_bytes());
     }
-}
 
-// Copies the bytes into the buffer from `at` on, and tells where they end.
-pub(crate) fn put(out: &mut [u8], at: usize, bytes: &[u8]) -> usize
-    requires { at + length bytes.now ≤ length out.old }
-    ensures end { result ≡ at + length bytes.now }
-    ensures after { out.new ≡ laid out.old at bytes.now }
-{
-    let end = at + bytes.len();
-    (&mut out[at..end]).copy_from_slice(bytes);
-    end
-}
-
-// An event with one operand.
-fn put_single(out: &mut [u8], at: usize, kind: u8, thread: u8, operand: u8) -> usize
-    requires { at + 3 ≤ length out.old }
-    ensures end { result ≡ at + 3 }
-    ensures after { out.new ≡ laid out.old at (kind ∷ (thread ∷ (operand ∷ []))) }
-{
-    put(out, at, &[kind, thread, operand])
-}
-
-// A commit.
-fn put_commit(out: &mut [u8], at: usize, thread: u8, reads: PlaceSet, writes: PlaceSet) -> usize
-    requires { at + 18 ≤ length out.old }
-    ensures end { result ≡ at + 18 }
-    ensures words { (reads.word < 2 ^ 64) × (writes.word < 2 ^ 64) }
-    ensures after { out.new ≡ laid out.old at (9 ∷ (thread ∷ (bytes_of 8 reads.word ++ bytes_of 8 writes.word))) }
-{
-    let operands = put(out, at, &[9, thread]);
-    let second = put(out, operands, &reads.word().to_le_bytes());
-    put(out, second, &writes.word().to_le_bytes())
-}
-
-// The event from `at` on.
-pub(crate) fn put_event(out: &mut [u8], at: usize, event: Event) -> usize
-    requires { at + length (event_bytes event) ≤ length out.old }
-    ensures end { result ≡ at + length (event_bytes event) }
-    ensures words { Words event.action }
-    ensures after { out.new ≡ laid out.old at (event_bytes event) }
-{
-    let thread = event.thread;
-    match event.action {
-        Action::Read { place } => put_single(out, at, 0, thread, place),
-        Action::Write { place } => put_single(out, at, 1, thread, place),
-        Action::Acquire { lock } => put_single(out, at, 2, thread, lock),
-        Action::Release { lock } => put_single(out, at, 3, thread, lock),
-        Action::ReadFlag { flag } => put_single(out, at, 4, thread, flag),
-        Action::WriteFlag { flag } => put_single(out, at, 5, thread, flag),
-        Action::Fork { child } => put_single(out, at, 6, thread, child),
-        Action::Join { child } => put_single(out, at, 7, thread, child),
-        Action::Allocate { object } => put_single(out, at, 8, thread, object),
-        Action::Commit { reads, writes } => put_commit(out, at, thread, reads, writes),
+    // An entry of the contents.
+    fn put_entry(&mut self, offset: u32, size: u32)
+        requires { Room self.old 8 }
+        ensures { Adds self.old (bytes_of 4 offset ++ bytes_of 4 size) self.new }
+    {
+        self.put(&offset.to_le_bytes());
+        self.put(&size.to_le_bytes());
     }
-}
 
-// The events, one after another from `at` on.
-pub(crate) fn put_events(out: &mut [u8], at: usize, events: &[Event])
-    requires { at + length (body events.now) ≤ length out.old }
-    ensures words { AllByRecursion (λ e. Words e.action) events.now }
-    ensures after { out.new ≡ laid out.old at (body events.now) }
-{
-    let mut end = at;
-    for event in events {
-        end = put_event(out, end, *event);
+    // The entries of the contents: each body begins where the part before it ends.
+    pub(crate) fn put_contents(&mut self, counts: &[usize], events: &[Event])
+        requires counts_in_bounds { (sum counts.now ≤ length events.now) × (length events.now ≤ 65536) }
+        requires events_bound { 4 + 8 * length counts.now + length (body events.now) ≤ 65536 }
+        requires room { Room self.old (8 * length counts.now) }
+        ensures { Adds self.old (contents (4 + 8 * length counts.now) counts.now events.now) self.new }
+    {
+        let mut offset = 4 + 8 * counts.len();
+        let mut left = events;
+        for count in counts {
+            let (section, rest) = left.split_at(*count);
+            let size = body_size(section);
+            self.put_entry(offset as u32, size as u32);
+            offset += size;
+            left = rest;
+        }
     }
-}
 
-// An entry of the contents.
-pub(crate) fn put_entry(out: &mut [u8], at: usize, offset: u32, size: u32) -> usize
-    requires { at + 8 ≤ length out.old }
-    ensures end { result ≡ at + 8 }
-    ensures after { out.new ≡ laid out.old at (bytes_of 4 offset ++ bytes_of 4 size) }
-{
-    let second = put(out, at, &offset.to_le_bytes());
-    put(out, second, &size.to_le_bytes())
-}
+    // What the action bears on.
+    fn put_operands(&mut self, action: Action)
+        requires { Room self.old (length (operands action)) }
+        ensures words { Words action }
+        ensures after { Adds self.old (operands action) self.new }
+    {
+        match action {
+            Action::Read { place: operand }
+            | Action::Write { place: operand }
+            | Action::Acquire { lock: operand }
+            | Action::Release { lock: operand }
+            | Action::ReadFlag { flag: operand }
+            | Action::WriteFlag { flag: operand }
+            | Action::Fork { child: operand }
+            | Action::Join { child: operand }
+            | Action::Allocate { object: operand } => self.put(&[operand]),
+            Action::Commit { reads, writes } => {
+                self.put(&reads.word().to_le_bytes());
+                self.put(&writes.word().to_le_bytes());
+            }
+        }
+    }
 
-// Edition and number of sections.
-pub(crate) fn put_header(out: &mut [u8], sections: u16)
-    requires { 4 ≤ length out.old }
-    ensures { out.new ≡ laid out.old 0 (bytes_of 2 1 ++ bytes_of 2 sections) }
-{
-    let edition: u16 = 1;
-    let second = put(out, 0, &edition.to_le_bytes());
-    put(out, second, &sections.to_le_bytes());
+    // Kind, thread and operands of the event.
+    fn put_event(&mut self, event: Event)
+        requires { Room self.old (length (event_bytes event)) }
+        ensures words { Words event.action }
+        ensures after { Adds self.old (event_bytes event) self.new }
+    {
+        let kind = Kind::from(event.action);
+        self.put(&[u8::from(kind), event.thread]);
+        self.put_operands(event.action);
+    }
+
+    // The events, one behind another.
+    pub(crate) fn put_events(&mut self, events: &[Event])
+        requires { Room self.old (length (body events.now)) }
+        ensures words { AllByRecursion (λ e. Words e.action) events.now }
+        ensures after { Adds self.old (body events.now) self.new }
+    {
+        for event in events {
+            self.put_event(*event);
+        }
+    }
 }

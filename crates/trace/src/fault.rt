@@ -1,6 +1,10 @@
 // What is wrong with a trace file, and where.
-ghost use Rattle.std.specs.Prelude.{◌≡◌};
+ghost use Rattle.std.specs.Prelude.{◌≡◌, Some};
 ghost use Rattle.trace.specs.Numbers.{number, write_number, layer};
+ghost use Rattle.trace.specs.Texts.{fault_words, site_text, refusal_text};
+
+use std::error::Error;
+use std::fmt;
 
 // A place in a file, as a refusal names it: sections and events count from 1, and both are 0 before the first event.
 #[derive(Clone, Copy, PartialEq, Eq, Debug)]
@@ -12,12 +16,12 @@ pub struct Site {
 
 #[derive(Clone, Copy, PartialEq, Eq, Debug)]
 pub enum TraceFault {
-    TooLong,
-    Truncated,
-    Edition,
-    Contents,
-    Kind,
-    Overrun,
+    TooLong = 12,
+    Truncated = 13,
+    Edition = 14,
+    Contents = 15,
+    Kind = 16,
+    Overrun = 17,
 }
 
 // A fault with its site.
@@ -27,12 +31,12 @@ pub struct Refusal {
     pub at: Site,
 }
 
-// Why a trace is not written.
+// Why a trace is not written. The number of a file that is too long is the same as where one is read.
 #[derive(Clone, Copy, PartialEq, Eq, Debug)]
 pub enum WriteFault {
-    Counts,
-    Oversize,
-    NoRoom,
+    Counts = 18,
+    Oversize = 12,
+    NoRoom = 19,
 }
 
 impl Refusal {
@@ -49,14 +53,7 @@ impl TraceFault {
     pub fn number(self) -> u8
         ensures { result ≡ number self }
     {
-        match self {
-            TraceFault::TooLong => 12,
-            TraceFault::Truncated => 13,
-            TraceFault::Edition => 14,
-            TraceFault::Contents => 15,
-            TraceFault::Kind => 16,
-            TraceFault::Overrun => 17,
-        }
+        self as u8
     }
 }
 
@@ -65,10 +62,49 @@ impl WriteFault {
     pub fn number(self) -> u8
         ensures { result ≡ write_number self }
     {
-        match self {
-            WriteFault::Counts => 18,
-            WriteFault::Oversize => 12,
-            WriteFault::NoRoom => 19,
-        }
+        self as u8
     }
 }
+
+impl fmt::Display for Site {
+    ghost output = { λ s. Some (site_text s) };
+
+    fn fmt<W: fmt::Write>(&self, f: &mut fmt::Formatter<W>) -> fmt::Result {
+        let Site {
+            section,
+            event,
+            byte,
+        } = *self;
+        write!(f, "section {section} event {event} byte {byte}")
+    }
+}
+
+impl fmt::Display for TraceFault {
+    ghost output = { λ f. Some (fault_words f) };
+
+    fn fmt<W: fmt::Write>(&self, f: &mut fmt::Formatter<W>) -> fmt::Result {
+        let meaning = match *self {
+            TraceFault::TooLong => "the file has more than 65536 bytes",
+            TraceFault::Truncated => "the file ends inside its header or contents",
+            TraceFault::Edition => "the edition is not 1",
+            TraceFault::Contents => "the contents do not fit the file",
+            TraceFault::Kind => "there is no such kind of event",
+            TraceFault::Overrun => "the event runs over the end of its section",
+        };
+        write!(f, "{meaning}")
+    }
+}
+
+impl fmt::Display for Refusal {
+    ghost output = { λ f. Some (refusal_text f) };
+
+    fn fmt<W: fmt::Write>(&self, f: &mut fmt::Formatter<W>) -> fmt::Result {
+        let number = self.fault.number();
+        let site = self.at;
+        write!(f, "refused {number} {site}")
+    }
+}
+
+impl Error for TraceFault {}
+
+impl Error for Refusal {}

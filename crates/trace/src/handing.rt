@@ -1,5 +1,5 @@
 // Handing the events of a file to a taker, one after another, as they are read.
-ghost use Rattle.std.specs.Prelude.{◌≡◌, ◌<◌, length, Result as AResult};
+ghost use Rattle.std.specs.Prelude.{◌≡◌, ◌<◌, length, Some, Ok, Result as AResult};
 ghost use Rattle.events.specs.declared.Event.{Event as AnEvent};
 ghost use Rattle.trace.specs.declared.fault.Site.{Site as ASite};
 ghost use Rattle.trace.specs.Reading.{site, taken, moved, found};
@@ -9,7 +9,6 @@ use crate::codec::read_event;
 use crate::fault::{Refusal, Site};
 use crate::place::Guard;
 use crate::reader::Reader;
-use crate::reading::at_site;
 use events::Event;
 
 // Who takes events, or turns one away with a fault.
@@ -21,9 +20,22 @@ pub trait Taker<E> {
         ensures { took self.old event at result self.new };
 }
 
+// Keeps the last event that it took, and turns none away.
+impl Taker<Refusal> for Option<Event> {
+    ghost took = { λ _ e _ r t. (r ≡ Ok tt) × (t ≡ Some e) };
+
+    fn take(&mut self, event: Event, _at: Site) -> Result<(), Refusal> {
+        *self = Some(event);
+        Ok(())
+    }
+}
+
 impl Reader<'_> {
     // Hands the next event on, of which there is one. The guard spans reading and taking.
-    fn hand_event<E: From<Refusal>, T: Taker<E>>(&mut self, taker: &mut T) -> Result<bool, E>
+    pub(crate) fn hand_event<E: From<Refusal>, T: Taker<E>>(
+        &mut self,
+        taker: &mut T,
+    ) -> Result<bool, E>
         requires { (0 < self.old.at.byte) × (self.old.at.byte < length self.old.bytes.now) }
         ensures handed { HandedAs T.Taker.took E.From.from_gives (found (taken self.old.bytes.now self.old.at)) (site self.old.bytes.now self.old.at) self.old.at (moved self.old.bytes.now self.old.at) taker.old taker.new self.new.at result }
         ensures bytes { self.new.bytes.now ≡ self.old.bytes.now }
@@ -31,21 +43,20 @@ impl Reader<'_> {
         let section = self.section();
         let end = self.section_end(section);
         let bytes = self.bytes;
-        let saved = self.at;
+        let before = self.at;
         let site = Site {
             section,
-            event: saved.events + 1,
-            byte: saved.byte,
+            event: before.events + 1,
+            byte: before.byte,
         };
         let mut guard = Guard {
             at: &mut self.at,
-            saved,
-            keep: false,
+            back: Some(before),
         };
         guard.at.section = section;
-        let event = at_site(read_event(bytes, guard.at, end), site)?;
+        let event = read_event(bytes, guard.at, end).map_err(|fault| Refusal { fault, at: site })?;
         taker.take(event, site)?;
-        guard.keep = true;
+        guard.back = None;
         Ok(true)
     }
 

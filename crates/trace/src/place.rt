@@ -1,5 +1,5 @@
 // Where a reader stands, and the guard that takes it back from an event that is refused.
-ghost use Rattle.std.specs.Prelude.{◌≡◌, if◌then◌else◌};
+ghost use Rattle.std.specs.Prelude.{◌≡◌, unwrap_or};
 
 // The section of the last event taken (0 before the first), how many events were taken, and the next byte.
 #[derive(Clone, Copy, PartialEq, Eq, Debug)]
@@ -9,24 +9,20 @@ pub struct Place {
     pub byte: usize,
 }
 
-// Holds the reader's place while an event is read. At its end the place is as it was, unless the event is kept.
+// Holds the reader's place while an event is read. At its end the place is put back, where there is one to go back to;
+// an event is kept by taking that away.
 pub struct Guard<'a> {
     pub at: &'a mut Place,
-    pub saved: Place,
-    pub keep: bool,
+    pub back: Option<Place>,
 }
 
 impl Drop for Guard<'_> {
     fn drop(self)
-        ensures { self.exit.0.now ≡ (if self.entry.keep then self.entry.at.now else self.entry.saved) }
+        ensures { self.exit.0.now ≡ unwrap_or self.entry.back self.entry.at.now }
     {
-        if !self.keep {
-            *self.at = self.saved;
+        let Guard { at, back } = self;
+        if let Some(place) = back {
+            *at = place;
         }
-        let Guard {
-            at: _,
-            saved: _,
-            keep: _,
-        } = self;
     }
 }

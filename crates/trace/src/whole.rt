@@ -1,13 +1,17 @@
 // A whole file read into its events and sections.
-ghost use Rattle.std.specs.Prelude.{◌≡◌, ℕ, ◌+◌, ◌-◌, ◌<◌, ◌≤◌, List, ◌++◌};
+ghost use Rattle.std.specs.Prelude.{◌≡◌, ℕ, ◌+◌, ◌-◌, ◌<◌, ◌≤◌, List, ◌++◌, Some};
 ghost use Rattle.trace.specs.Layout.{count, body_end};
-ghost use Rattle.trace.specs.Whole.{SectionRead, WholeRead};
+ghost use Rattle.trace.specs.Texts.{error_text};
+ghost use Rattle.trace.specs.Whole.{Pushed, SectionRead, WholeRead};
 ghost use Rattle.trace.specs.declared.whole.ReadError.TheVariants.{Refused, Memory};
 
-use crate::fault::Refusal;
+use crate::fault::{Refusal, Site};
+use crate::handing::Taker;
 use crate::reader::Reader;
 use events::Event;
 use std::alloc::{AllocError, Global};
+use std::error::Error;
+use std::fmt;
 
 // Events, and how many of them each section has.
 #[derive(Drop)]
@@ -47,6 +51,29 @@ impl<T: Drop> From<std::alloc::AllocFailed<T>> for ReadError {
     }
 }
 
+impl fmt::Display for ReadError {
+    ghost output = { λ e. Some (error_text e) };
+
+    fn fmt<W: fmt::Write>(&self, f: &mut fmt::Formatter<W>) -> fmt::Result {
+        match self {
+            ReadError::Refused(refusal) => write!(f, "{refusal}"),
+            ReadError::Memory => write!(f, "no memory"),
+        }
+    }
+}
+
+impl Error for ReadError {}
+
+// Keeps each event.
+impl Taker<ReadError> for Vec<Event> {
+    ghost took = { λ s e _ r t. Pushed s.items e r t.items };
+
+    fn take(&mut self, event: Event, _at: Site) -> Result<(), ReadError> {
+        self.push(event)?;
+        Ok(())
+    }
+}
+
 impl Reader<'_> {
     // Takes the events that are left of the section in which the reader stands.
     fn take_section(&mut self, section: usize, events: &mut Vec<Event>) -> Result<(), ReadError>
@@ -57,7 +84,7 @@ impl Reader<'_> {
     {
         let end = self.section_end(section);
         while self.at.byte < end {
-            events.push(self.take_event()?)?;
+            self.hand_event(events)?;
         }
         Ok(())
     }
@@ -71,9 +98,9 @@ pub fn read_whole(heap: Global, bytes: &[u8]) -> Result<Trace, ReadError>
     let sections = reader.contents()?;
     let mut events = Vec::new(heap);
     let mut counts = Vec::new(heap);
-    for i in 0..sections {
+    for section in 1..=sections {
         let before = events.len();
-        reader.take_section(i + 1, &mut events)?;
+        reader.take_section(section, &mut events)?;
         counts.push(events.len() - before)?;
     }
     Ok(Trace { events, counts })

@@ -1,9 +1,7 @@
-use Rattle.std.proofs.Common.{length, ap, ◌∙◌, arith}
-use Rattle.trace.specs.Codec.{operands}
-use Rattle.trace.proofs.Events.{length_sets}
+use Rattle.std.proofs.Common.{sym, ap, ◌∙◌}
+use Rattle.trace.specs.Codec.{size}
+use Rattle.trace.proofs.Events.{length_event}
 use Rattle.trace.proofs.encode.event_size.Goals as goal
 
-pub returns-in-Commit : goal.returns-in-Commit
-returns-in-Commit c =
-    let long = ap (λ a. length (operands a)) c.in-Commit.is ∙ length_sets c.in-Commit.reads.word c.in-Commit.writes.word in
-    record { value = omega arith; bound = omega arith }
+pub returns-clause-value : goal.returns-clause-value
+returns-clause-value c = c.size.ensures ∙ ap size c.from.ensures ∙ sym (length_event c.args.event.now)

@@ -1,17 +1,17 @@
-use Rattle.std.proofs.Common.{◌≡◌, ◌+◌, ◌-◌, ◌<◌, ◌≤◌, length, is_ok, None, Err, vec_items, sym, ap, ◌∙◌, subst, arith}
+use Rattle.std.proofs.Common.{◌≡◌, ◌-◌, ◌<◌, length, is_ok, None, Err, vec_items, sym, ap, ◌∙◌, subst, arith}
 use Rattle.std.proofs.ResultArms.{chosen}
 use Rattle.std.proofs.ByRecursion.{All-from_get_or}
 use Rattle.std.proofs.lemmas.List.{length-append}
 use Rattle.std.proofs.lemmas.Result.{err_from_is_err_and}
 use Rattle.trace.specs.Layout.{count, body_end, opening}
 use Rattle.trace.specs.Reading.{origin, sections_or, inside}
-use Rattle.trace.specs.Whole.{Onward, SectionRead, WholeRead}
+use Rattle.trace.specs.Whole.{Contains, SectionRead, WholeRead}
 use Rattle.trace.proofs.Opened.{ends_ordered}
 use Rattle.trace.proofs.Steps.{entered_ok}
 use Rattle.trace.proofs.Rewrite.{rewritten}
 use Rattle.trace.proofs.Sections.{Through, through_none, through_more, through_all, whole_fails}
 use Rattle.trace.proofs.whole.read_whole.Goals as goal
-use Rattle.trace.proofs.whole.read_whole.Goals.{In_ok-sections}
+use Rattle.trace.proofs.whole.read_whole.Goals.{In_ok-sections, else-loop-section-test, then-loop-section-test+in_ok-take_section+in_ok-push+else-section-sections}
 
 -- the file opens, and the reader stands before its first event
 opens : (c : In_ok-sections) → (opening c.args.bytes.now ≡ None) × (c.in_ok-sections.sections ≡ count c.args.bytes.now) × (c.contents.new.self.at ≡ origin c.args.bytes.now)
@@ -23,27 +23,28 @@ opens c =
     let first = entered_ok bs c.in_ok-sections.sections (ap (λ b. sections_or b (opening b)) (sym same) ∙ sym told.answer ∙ c.in_ok-sections.was) in
     (first.0, first.1, told.place ∙ ap (λ b. inside b c.new-reader.result.at) same ∙ ap (inside bs) c.new-reader.ensures.1 ∙ first.2)
 
-pub loop-i-init : goal.loop-i-init
-loop-i-init c =
-    let first = opens (goal.at.loop-i-init c).In_ok-sections in
+pub loop-section-init : goal.loop-section-init
+loop-section-init c =
+    let first = opens (goal.at.loop-section-init c).In_ok-sections in
     let byte = ap (λ p. p.byte) first.2 in (
       c.contents.ensures.bytes ∙ c.new-reader.ensures.0,
       omega arith,
-      subst (λ es. Through c.args.bytes.now 0 c.contents.new.self.at (vec_items c.new-counts.result) es) (sym c.new-events.ensures.items) (subst (λ cs. Through c.args.bytes.now 0 c.contents.new.self.at cs _) (sym c.new-counts.ensures.items) (through_none c.args.bytes.now c.contents.new.self.at first.2)),
+      subst (λ es. Through c.args.bytes.now 1 c.contents.new.self.at (vec_items c.new-counts.result) es) (sym c.new-events.ensures.items) (subst (λ cs. Through c.args.bytes.now 1 c.contents.new.self.at cs _) (sym c.new-counts.ensures.items) (through_none c.args.bytes.now c.contents.new.self.at first.2)),
+      omega arith,
     )
 
 pub take_section-requires : goal.take_section-requires
 take_section-requires c =
     let first = opens (goal.at.take_section-requires c).In_ok-sections in
-    let inv = c.loop-i.invariant in
+    let inv = c.loop-section.invariant in
     let many = ap count inv.0 in
-    let held = c.loop-i.reader.bytes.now in
-    let here = ap (λ b. body_end b c.loop-i.i) inv.0 in
-    let same : c.loop-i.i + 1 - 1 ≡ c.loop-i.i = omega arith in
-    let rise = ends_ordered held c.loop-i.i (c.loop-i.i + 1) (omega arith) in
+    let held = c.loop-section.reader.bytes.now in
+    let s = c.loop-section.section in
+    let here = ap (λ b. body_end b (s - 1)) inv.0 in
+    let rise = ends_ordered held (s - 1) s (omega arith) in
     record {
       byte_nonzero = (inv.1, (omega arith, omega (arith, first.1)));
-      section_bound = (subst (λ s. body_end held s ≤ c.loop-i.reader.at.byte) (sym same) (omega (arith, inv.2.place)), omega (arith, inv.2.place));
+      section_bound = (omega (arith, inv.2.place), omega (arith, inv.2.place));
     }
 
 pub returns-in_err-take_section : goal.returns-in_err-take_section
@@ -51,40 +52,52 @@ returns-in_err-take_section c =
     let p = err_from_is_err_and c.from_residual-in_err-take_section.result c.from_residual-in_err-take_section.ensures.1 in
     let first = opens (goal.at.returns-in_err-take_section c).In_ok-sections in
     let bs = c.args.bytes.now in
-    let inv = c.loop-i.invariant in
+    let inv = c.loop-section.invariant in
     let y = c.in_err-take_section.field-0.0 in
-    let q = c.loop-i.reader.at in
+    let q = c.loop-section.reader.at in
     let q' = c.take_section.new.self.at in
-    let section = subst (λ b. SectionRead b (c.loop-i.i + 1) q q' (vec_items c.loop-i.events) (vec_items c.take_section.new.events) (Err y)) inv.0 c.in_err-take_section.ensures.section in
-    subst (WholeRead bs) (sym (p.1 ∙ ap Err p.2)) (whole_fails bs c.loop-i.i (c.loop-i.i + 1) q q' (vec_items c.loop-i.counts) (vec_items c.loop-i.events) (vec_items c.loop-i.events) (vec_items c.take_section.new.events) first.0 inv.2 y section)
+    let section = subst (λ b. SectionRead b c.loop-section.section q q' (vec_items c.loop-section.events) (vec_items c.take_section.new.events) (Err y)) inv.0 c.in_err-take_section.ensures.section in
+    subst (WholeRead bs) (sym (p.1 ∙ ap Err p.2)) (whole_fails bs c.loop-section.section q q' (vec_items c.loop-section.counts) (vec_items c.loop-section.events) (vec_items c.loop-section.events) (vec_items c.take_section.new.events) first.0 inv.2 y section)
 
 pub overflow_sub-len : goal.overflow_sub-len
 overflow_sub-len c =
     let section = c.in_ok-take_section.ensures.section.2 in
-    let old = c.loop-i.events.ok.0 in
+    let old = c.loop-section.events.ok.0 in
     let all = c.take_section.new.events.ok.0 in
-    let long = ap length section.1 ∙ length-append (vec_items c.loop-i.events) section.0 in
+    let long = ap length section.1 ∙ length-append (vec_items c.loop-section.events) section.0 in
     omega (arith, c.len-before.ensures, c.len.ensures)
 
-pub loop-i-preserved : goal.loop-i-preserved
-loop-i-preserved c =
-    let bs = c.args.bytes.now in
-    let inv = c.loop-i.invariant in
+pub loop-section-preserved : goal.loop-section-preserved
+loop-section-preserved c =
+    let inv = c.loop-section.invariant in
     let told = c.in_ok-take_section.ensures in
-    let section = told.section in
-    let q = c.loop-i.reader.at in
-    let q' = c.take_section.new.self.at in
-    let old = c.loop-i.events.ok.0 in
+    let old = c.loop-section.events.ok.0 in
     let all = c.take_section.new.events.ok.0 in
-    let es = section.2.0 in
-    let onward = subst (λ b. Onward b (c.loop-i.i + 1) q q' es) inv.0 section.2.2 in
-    let place = section.1 ∙ ap (λ b. body_end b (c.loop-i.i + 1)) inv.0 in
-    let pushed = chosen _ _ _ _ c.push.ensures.items (ap is_ok c.in_ok-push.was) in
-    (told.bytes ∙ inv.0, section.0, through_more inv.2 q' _ _ es _ place section.2.1 onward (omega (arith, c.len-before.ensures, c.len.ensures)) pushed)
+    let pushed = chosen _ _ _ _ c.push.ensures.items (ap is_ok c.in_ok-push.was) in (
+      told.bytes ∙ inv.0,
+      told.section.0,
+      through_more inv.2 _ _ _ _ _ _ inv.0 told.section (omega (arith, c.len-before.ensures, c.len.ensures)) pushed,
+      omega arith,
+    )
 
 pub returns : goal.returns
 returns c =
+    let bs = c.args.bytes.now in
     let first = opens (goal.at.returns c).In_ok-sections in
-    let all = through_all c.loop-i.invariant.2 first.0 (omega (arith, first.1)) in
-    let bytes = All-from_get_or (λ b. b < 256) c.args.bytes.now 0 (λ i _. omega (arith, c.type_inv.bytes i)) in
-    (all, rewritten c.args.bytes.now (vec_items c.loop-i.counts) (vec_items c.loop-i.events) bytes all)
+    let inv = c.loop-section.invariant in
+    let bytes = All-from_get_or (λ b. b < 256) bs 0 (λ i _. omega (arith, c.type_inv.bytes i)) in
+    let read : Contains bs (vec_items c.loop-section-test.counts) (vec_items c.loop-section-test.events) =
+    elim c.loop-section-test.branch [
+      | else-loop-section-test w ↦
+          let all = through_all inv.2 first.0 (omega (arith, first.1)) in
+          subst (λ l. Contains bs (vec_items c.loop-section-test.counts) (vec_items l)) (sym w.events-is) (subst (λ l. Contains bs (vec_items l) (vec_items c.loop-section.events)) (sym w.counts-is) all)
+      | then-loop-section-test+in_ok-take_section+in_ok-push+else-section-sections w ↦
+          let told = w.in_ok-take_section.ensures in
+          let old = c.loop-section.events.ok.0 in
+          let all = w.take_section.new.events.ok.0 in
+          let pushed = chosen _ _ _ _ w.push.ensures.items (ap is_ok w.in_ok-push.was) in
+          let more = through_more inv.2 _ _ _ _ _ _ inv.0 told.section (omega (arith, w.len-before.ensures, w.len.ensures)) pushed in
+          let all = through_all more first.0 (omega (arith, first.1)) in
+          subst (λ l. Contains bs (vec_items c.loop-section-test.counts) (vec_items l)) (sym w.events-is) (subst (λ l. Contains bs (vec_items l) (vec_items w.take_section.new.events)) (sym w.counts-is) all)
+    ] in
+    (read, rewritten bs (vec_items c.loop-section-test.counts) (vec_items c.loop-section-test.events) bytes read)

@@ -1,24 +1,29 @@
-use Rattle.std.proofs.Common.{Err, sym, ap, ◌∙◌, arith}
+use Rattle.std.proofs.Common.{Err, sym, ap, ◌∙◌}
 use Rattle.std.proofs.lemmas.Result.{err_from_is_err_and}
-use Rattle.trace.specs.Reading.{kept, moved}
-use Rattle.trace.proofs.Steps.{next_refused, next_faulty}
+use Rattle.trace.proofs.Answered.{next_rule}
+use Rattle.trace.proofs.HandedOn.{next_place, next_ok, next_err}
 use Rattle.trace.proofs.reader.Reader.next.Goals as goal
 
-pub returns-in_err-contents : goal.returns-in_err-contents
-returns-in_err-contents c =
+pub returns-in_err-hand : goal.returns-in_err-hand
+returns-in_err-hand c =
     let p = err_from_is_err_and c.from_residual.result c.from_residual.ensures.1 in
     let self = c.args.self.now in
-    let told = c.contents.ensures in
-    let next = next_refused self.bytes.now self.at c.in_err-contents.field-0.0 (sym told.answer ∙ c.in_err-contents.was) in
-    record { answer = p.1 ∙ ap Err p.2 ∙ sym next.0; place = told.place ∙ next.2 ∙ sym next.1; bytes = told.bytes }
+    let handed = c.in_err-hand.ensures.handed in
+    let answer = p.1 ∙ ap Err p.2 ∙ sym (next_err self.bytes.now self.at c.hand.new.self.at c.hand.new.taker _ handed) in
+    record {
+      answer = answer;
+      rule = next_rule self.bytes.now self.at c.from_residual.result self.stands answer;
+      place = next_place self.bytes.now self.at c.hand.new.self.at c.hand.new.taker _ handed;
+      bytes = c.hand.ensures.bytes;
+    }
 
-pub returns-in_err-take_event : goal.returns-in_err-take_event
-returns-in_err-take_event c =
-    let p = err_from_is_err_and c.from_residual-in_err-take_event.result c.from_residual-in_err-take_event.ensures.1 in
+pub returns : goal.returns
+returns c =
     let self = c.args.self.now in
-    let told = c.contents.ensures in
-    let took = c.take_event.ensures in
-    let held = c.contents.new.self in
-    let failed = c.in_err-take_event.was in
-    let next = next_faulty self.bytes.now held.bytes.now self.at held.at c.in_ok-contents.field-0 c.in_err-take_event.field-0.0 told.bytes told.place (sym told.answer ∙ c.in_ok-contents.was) (omega arith) (sym took.answer ∙ failed) in
-    record { answer = p.1 ∙ ap Err p.2 ∙ sym next.0; place = took.place ∙ ap (λ r. kept r held.at (moved held.bytes.now held.at)) failed ∙ sym next.1; bytes = took.bytes ∙ told.bytes }
+    let handed = c.in_ok-hand.ensures.handed in
+    record {
+      answer = sym (next_ok self.bytes.now self.at c.hand.new.self.at c.hand.new.taker _ handed);
+      rule = tt;
+      place = next_place self.bytes.now self.at c.hand.new.self.at c.hand.new.taker _ handed;
+      bytes = c.hand.ensures.bytes;
+    }
