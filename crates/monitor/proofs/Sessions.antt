@@ -2,7 +2,7 @@
 use Rattle.std.proofs.Common.{◌≡◌, List, [], ◌∷◌, ◌++◌, map, sym, refl, ap, ◌∙◌, subst}
 use Rattle.std.proofs.lemmas.List.{append-nil, append_assoc}
 use Rattle.events.specs.declared.Event.{Event}
-use Rattle.keepers.specs.Meaning.{Meaning}
+use Rattle.keepers.specs.declared.keeper.Keeper.{Ghosts}
 use Rattle.order.specs.Conflicts.{RaceFree}
 use Rattle.order.specs.Examples.{answers, examples}
 use Rattle.order.specs.Judgement.{recorded}
@@ -23,7 +23,7 @@ use Rattle.monitor.specs.Stands.{Stands}
 use Rattle.monitor.specs.Promise.{RightVerdict, RightReply, after, record_after, Sound, Promise, told_replies, AnsweredAs}
 
 -- an offered event's verdict is right, and the monitor stands for what is recorded
-pub offered_right : {K : Type 0} {live : K → Type 0} {meaning : K → Meaning} {m m' : Monitor K} (e : Event) (v : Verdict) → Judges live meaning m e v m' → (rec : List Event) → Stands live meaning rec m → RightVerdict rec e v × Stands live meaning (recorded rec e (told v)) m'
+pub offered_right : {K : Type 0} {its : Ghosts K} {m m' : Monitor K its} (e : Event) (v : Verdict) → Judges m e v m' → (rec : List Event) → Stands rec m → RightVerdict rec e v × Stands (recorded rec e (told v)) m'
 offered_right e v judges rec stands =
     let answer = judges rec stands in
     (record { judged = answer.0; right = right_at rec e stands.lawful stands.free (told v) (sym answer.0) }, answer.1)
@@ -47,31 +47,31 @@ promise_push rec (d ∷ cs) [] c r p right s = absurd p
 promise_push rec (d ∷ cs) (x ∷ rs) c r p right s = (p.0, p.1, promise_push (after rec d x) cs rs c r p.2 right s)
 
 -- of all calls some are made and the rest are left; the monitor stands for the record of those that are made
-pub record Sofar {K : Type 0} (live : K → Type 0) (meaning : K → Meaning) (all rest : List Call) (rs : List Reply) (m : Monitor K) : Type 0 where
+pub record Sofar {K : Type 0} {its : Ghosts K} (all rest : List Call) (rs : List Reply) (m : Monitor K its) : Type 0 where
   pub made : List Call
   pub split : all ≡ made ++ rest
   pub promise : Promise [] made rs
-  pub stands : Stands live meaning (record_after [] made rs) m
+  pub stands : Stands (record_after [] made rs) m
 
-pub sofar_none : {K : Type 0} (live : K → Type 0) (meaning : K → Meaning) (all : List Call) (rs : List Reply) (m : Monitor K) → rs ≡ [] → Stands live meaning [] m → Sofar live meaning all all rs m
+pub sofar_none : {K : Type 0} {its : Ghosts K} (all : List Call) (rs : List Reply) (m : Monitor K its) → rs ≡ [] → Stands [] m → Sofar all all rs m
 unfolding Promise record_after
-sofar_none live meaning all rs m none stands = record { made = []; split = refl; promise = subst (Promise [] []) (sym none) tt; stands = stands }
+sofar_none all rs m none stands = record { made = []; split = refl; promise = subst (Promise [] []) (sym none) tt; stands = stands }
 
-module _ {K : Type 0} {live : K → Type 0} {meaning : K → Meaning} {all rest : List Call} {rs : List Reply} {m : Monitor K} (sofar : Sofar live meaning all rest rs m) where
-  pub sofar_more : (rest' : List Call) (rs' : List Reply) (m' : Monitor K) (c : Call) (r : Reply) → rest ≡ c ∷ rest' → rs' ≡ rs ++ (r ∷ []) → ((rec : List Event) → Stands live meaning rec m → RightReply rec c r × Stands live meaning (after rec c r) m') → Sofar live meaning all rest' rs' m'
+module _ {K : Type 0} {its : Ghosts K} {all rest : List Call} {rs : List Reply} {m : Monitor K its} (sofar : Sofar all rest rs m) where
+  pub sofar_more : (rest' : List Call) (rs' : List Reply) (m' : Monitor K its) (c : Call) (r : Reply) → rest ≡ c ∷ rest' → rs' ≡ rs ++ (r ∷ []) → ((rec : List Event) → Stands rec m → RightReply rec c r × Stands (after rec c r) m') → Sofar all rest' rs' m'
   sofar_more rest' rs' m' c r first push call =
       let step = call (record_after [] sofar.made rs) sofar.stands in
       record {
         made = sofar.made ++ (c ∷ []);
         split = sofar.split ∙ ap (λ l. sofar.made ++ l) first ∙ sym (append_assoc sofar.made (c ∷ []) rest');
         promise = subst (Promise [] (sofar.made ++ (c ∷ []))) (sym push) (promise_push [] sofar.made rs c r sofar.promise step.0 (sound _ step.1.free));
-        stands = subst (λ l. Stands live meaning l m') (sym (ap (record_after [] (sofar.made ++ (c ∷ []))) push ∙ record_push [] sofar.made rs c r sofar.promise)) step.1;
+        stands = subst (λ l. Stands l m') (sym (ap (record_after [] (sofar.made ++ (c ∷ []))) push ∙ record_push [] sofar.made rs c r sofar.promise)) step.1;
       }
 
-  pub sofar_all : rest ≡ [] → Promise [] all rs × Stands live meaning (record_after [] all rs) m
+  pub sofar_all : rest ≡ [] → Promise [] all rs × Stands (record_after [] all rs) m
   sofar_all none =
       let whole = sofar.split ∙ ap (λ l. sofar.made ++ l) none ∙ append-nil sofar.made in
-      (subst (λ l. Promise [] l rs) (sym whole) sofar.promise, subst (λ l. Stands live meaning (record_after [] l rs) m) (sym whole) sofar.stands)
+      (subst (λ l. Promise [] l rs) (sym whole) sofar.promise, subst (λ l. Stands (record_after [] l rs) m) (sym whole) sofar.stands)
 
 -- offered events are answered by the judgement, one after another
 promise_answers : (rec : List Event) (es : List Event) (rs : List Reply) → Promise rec (map (λ e. Offer e) es) rs → told_replies rs ≡ answers rec es

@@ -3,7 +3,8 @@ use Rattle.std.proofs.Common.{◌≡◌, ℕ, ◌+◌, ◌*◌, ◌<◌, ◌≤�
 use mathlib.Core.Path.{fun_ext}
 use Rattle.std.proofs.lemmas.Bool.{leb-false, lt-ltb, lt-leb, and_from, or_from, cond-true, cond-false}
 use Rattle.events.specs.declared.Event.{Event}
-use Rattle.keepers.specs.Meaning.{Meaning, cleared}
+use Rattle.keepers.specs.declared.keeper.Keeper.{Ghosts}
+use Rattle.keepers.specs.Meaning.{cleared}
 use Rattle.keepers.proofs.Laws.{sets_cleared, passes_cleared}
 use Rattle.order.specs.Cells.{Cell, cell_race, cell_verdict}
 use Rattle.order.specs.Faults.{faults, record_full}
@@ -39,8 +40,8 @@ same_set : (s s' : Set) → ((h : ℕ) → s h ≡ s' h) → s ≡ s'
 same_set s s' e = fun_ext e
 
 -- a monitor over a cleared keeper, with a new roster and no serials
-pub stands_none : {K : Type 0} (live : K → Type 0) (meaning : K → Meaning) (m : Monitor K) → m.accepted ≡ 0 → Fresh m.roster → live m.slots.keeper → meaning m.slots.keeper ≡ cleared → ((p k : ℕ) → serial_at m.slots.serials p k ≡ 0) → Stands live meaning [] m
-stands_none live meaning m none fresh lives clear zeros = record {
+pub stands_none : {K : Type 0} {its : Ghosts K} (m : Monitor K its) → m.accepted ≡ 0 → Fresh m.roster → its.live m.slots.keeper → its.meaning m.slots.keeper ≡ cleared → ((p k : ℕ) → serial_at m.slots.serials p k ≡ 0) → Stands [] m
+stands_none {its = its} m none fresh lives clear zeros = record {
   counts = none;
   few = omega arith;
   roster = follows_none m.roster fresh;
@@ -48,7 +49,7 @@ stands_none live meaning m none fresh lives clear zeros = record {
   passes = ap (λ x. x.passes) clear ∙ passes_cleared;
   spare = let none = ap (λ x. x.passes) clear ∙ passes_cleared in omega arith;
   cells = λ p k _ _.
-      let set : set_at (meaning m.slots.keeper) p k ≡ nobody = same_set _ _ (λ h. ap (λ x. x.sets (9 * p + k) h) clear ∙ sets_cleared (9 * p + k) h) in
+      let set : set_at (its.meaning m.slots.keeper) p k ≡ nobody = same_set _ _ (λ h. ap (λ x. x.sets (9 * p + k) h) clear ∙ sets_cleared (9 * p + k) h) in
       subst (λ s. Cell [] p k (serial_at m.slots.serials p k) s) (sym set) (subst (λ n. Cell [] p k n nobody) (sym (zeros p k)) (cell_start p k));
   lawful = tt;
   free = nothing_races;
@@ -59,27 +60,27 @@ not_full : (rec : List Event) (e : Event) → NoFault rec e → length rec < 100
 unfolding faults record_full
 not_full rec e none = leb-false 1000000 (length rec) (none 9)
 
-module _ {K : Type 0} {live : K → Type 0} {meaning : K → Meaning} {rec : List Event} {m : Monitor K} (stands : Stands live meaning rec m) (e : Event) where
+module _ {K : Type 0} {its : Ghosts K} {rec : List Event} {m : Monitor K its} (stands : Stands rec m) (e : Event) where
   -- the refusal that the roster tells is the judgement's
   pub judged_refused : (f : RuleFault) → numbered (Err f) ≡ roster_refused m.roster m.accepted e → judge rec e ≡ refused (fault_number f)
   judged_refused f h = judge_refused rec e (fault_number f) (sym (rule_tells rec m.roster m.accepted e (Err f) stands.roster stands.counts h))
 
   -- where it tells none, the judgement's answer is by the race that the cells have, or that they have none
-  pub judged_by_cells : numbered (Ok tt) ≡ roster_refused m.roster m.accepted e → (o : Option Finding) → (live m.slots.keeper → InBounds e → o ≡ cell_race e (serial_at m.slots.serials) (set_at (meaning m.slots.keeper))) → judge rec e ≡ cell_verdict (length rec) o
+  pub judged_by_cells : numbered (Ok tt) ≡ roster_refused m.roster m.accepted e → (o : Option Finding) → (InBounds e → o ≡ cell_race e (serial_at m.slots.serials) (set_at (its.meaning m.slots.keeper))) → judge rec e ≡ cell_verdict (length rec) o
   judged_by_cells h o race =
       let none = sym (rule_tells rec m.roster m.accepted e (Ok tt) stands.roster stands.counts h) in
       let bounds = in_bounds rec e ((no_fault_iff rec e).0 none) in
-      judge_by_cells rec e stands.free (serial_at m.slots.serials) (set_at (meaning m.slots.keeper)) stands.cells
-      ∙ ap (λ o. ruled o (cell_verdict (length rec) (cell_race e (serial_at m.slots.serials) (set_at (meaning m.slots.keeper))))) none
-      ∙ ap (cell_verdict (length rec)) (sym (race stands.lives bounds))
+      judge_by_cells rec e stands.free (serial_at m.slots.serials) (set_at (its.meaning m.slots.keeper)) stands.cells
+      ∙ ap (λ o. ruled o (cell_verdict (length rec) (cell_race e (serial_at m.slots.serials) (set_at (its.meaning m.slots.keeper))))) none
+      ∙ ap (cell_verdict (length rec)) (sym (race bounds))
 
   -- what accepting the event makes of the monitor stands for the longer record
-  pub stands_more : (m' : Monitor K) (serial : ℕ) → judge rec e ≡ accepted serial → m'.accepted ≡ serial → Noted m.roster e m'.roster → live m'.slots.keeper → meaning m'.slots.keeper ≡ made (calls e) (meaning m.slots.keeper) → Numbered m.slots.serials m'.slots.serials (λ p k n. changed e p k serial 0 n) → Stands live meaning (e ∷ rec) m'
+  pub stands_more : (m' : Monitor K its) (serial : ℕ) → judge rec e ≡ accepted serial → m'.accepted ≡ serial → Noted m.roster e m'.roster → its.live m'.slots.keeper → its.meaning m'.slots.keeper ≡ made (calls e) (its.meaning m.slots.keeper) → Numbered m.slots.serials m'.slots.serials (λ p k n. changed e p k serial 0 n) → Stands (e ∷ rec) m'
   stands_more m' serial took count noted lives work numbers =
       let took-right = right_at rec e stands.lawful stands.free (accepted serial) took in
       let none = took-right.lawful in
       let bounds = in_bounds rec e none in
-      let old = meaning m.slots.keeper in
+      let old = its.meaning m.slots.keeper in
       let room = not_full rec e none in
       let least = passes_of_few e in
       let few : old.passes + passes_of e ≤ 200000000 = omega (arith, stands.spare) in
@@ -102,8 +103,8 @@ module _ {K : Type 0} {live : K → Type 0} {meaning : K → Meaning} {rec : Lis
       }
 
 -- what the slots tell answers the question
-pub asked_told : {K : Type 0} {live : K → Type 0} {meaning : K → Meaning} {rec : List Event} {m : Monitor K} → Stands live meaning rec m → (p t slot : ℕ) (a : Access) (o : Option Told) → slot ≡ slot_of a → no_reader a ≡ false → p < 64 → slot < 9 → t < 8 → told_as o ≡ cond (ltb p 64 && (ltb slot 9 && ltb t 8)) (cell_told (serial_at m.slots.serials p slot) (set_at (meaning m.slots.keeper) p slot) t) None → ◌≡◌ {A = Result (Option questions.Told) ℕ} (Ok (told_as o)) (asked rec p a t)
-asked_told {K} {live} {meaning} {rec} {m} stands p t slot a o is reader place in-slot thread told =
+pub asked_told : {K : Type 0} {its : Ghosts K} {rec : List Event} {m : Monitor K its} → Stands rec m → (p t slot : ℕ) (a : Access) (o : Option Told) → slot ≡ slot_of a → no_reader a ≡ false → p < 64 → slot < 9 → t < 8 → told_as o ≡ cond (ltb p 64 && (ltb slot 9 && ltb t 8)) (cell_told (serial_at m.slots.serials p slot) (set_at (its.meaning m.slots.keeper) p slot) t) None → ◌≡◌ {A = Result (Option questions.Told) ℕ} (Ok (told_as o)) (asked rec p a t)
+asked_told {K} {its} {rec} {m} stands p t slot a o is reader place in-slot thread told =
     let range = and_from (ltb p 64) (ltb slot 9 && ltb t 8) (lt-ltb p 64 place) (and_from (ltb slot 9) (ltb t 8) (lt-ltb slot 9 in-slot) (lt-ltb t 8 thread)) in
     let cell = stands.cells p slot place in-slot in
     let answer = told ∙ cond-true (ltb p 64 && (ltb slot 9 && ltb t 8)) _ _ range ∙ sym (told_by_cell rec p slot _ _ cell t thread) ∙ ap (λ k. questions.slot_told rec p k t) is in

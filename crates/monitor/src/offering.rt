@@ -19,7 +19,7 @@ use slots::{Slots, Told};
 impl<K: Keeper> Monitor<K> {
     // An empty record over the keeper, whatever that held before.
     pub fn start(keeper: K) -> Monitor<K>
-        ensures { Stands K.live K.meaning [] result }
+        ensures { Stands [] result }
     {
         Monitor {
             accepted: 0,
@@ -30,7 +30,7 @@ impl<K: Keeper> Monitor<K> {
 
     // How the event would be answered.
     fn check(&self, event: Event) -> Verdict
-        ensures { (rec : List AnEvent) → Stands K.live K.meaning rec self.now → told result ≡ judge rec event }
+        ensures { (rec : List AnEvent) → Stands rec self.now → told result ≡ judge rec event }
     {
         if let Err(fault) = self.roster.rule(self.accepted, event) {
             return Verdict::Refused { fault };
@@ -48,8 +48,8 @@ impl<K: Keeper> Monitor<K> {
 
     // Records an event that was found good, under its serial.
     fn accept(&mut self, serial: u32, event: Event)
-        ensures stands { (rec : List AnEvent) → Stands K.live K.meaning rec self.old → judge rec event ≡ accepted_as serial → Stands K.live K.meaning (event ∷ rec) self.new }
-        ensures keeper { K.live self.old.slots.keeper → K.meaning self.new.slots.keeper ≡ made (calls event) (K.meaning self.old.slots.keeper) }
+        ensures stands { (rec : List AnEvent) → Stands rec self.old → judge rec event ≡ accepted_as serial → Stands (event ∷ rec) self.new }
+        ensures keeper { K.meaning self.new.slots.keeper ≡ made (calls event) (K.meaning self.old.slots.keeper) }
     {
         self.accepted = serial;
         self.slots.work(serial, event);
@@ -58,8 +58,8 @@ impl<K: Keeper> Monitor<K> {
 
     // Offers an event. Only an accepted one changes anything.
     pub fn offer(&mut self, event: Event) -> Verdict
-        ensures answer { Judges K.live K.meaning self.old event result self.new }
-        ensures keeper { Works K.live K.meaning self.old event result self.new }
+        ensures answer { Judges self.old event result self.new }
+        ensures keeper { Works self.old event result self.new }
         ensures unchanged { UnlessAccepted result (self.new ≡ self.old) }
     {
         let verdict = self.check(event);
@@ -83,14 +83,14 @@ impl<K: Keeper> Monitor<K> {
 
     // How many events are accepted.
     pub fn accepted(&self) -> u32
-        ensures { (rec : List AnEvent) → Stands K.live K.meaning rec self.now → result ≡ length rec }
+        ensures { (rec : List AnEvent) → Stands rec self.now → result ≡ length rec }
     {
         self.accepted
     }
 
     // Whether the access that is asked about is there; and then its serial, and whether it has reached the thread.
     pub fn ask(&self, question: Question) -> Result<Option<Told>, RuleFault>
-        ensures { (rec : List AnEvent) → Stands K.live K.meaning rec self.now → told_of result ≡ asked rec question.place question.access question.thread }
+        ensures { (rec : List AnEvent) → Stands rec self.now → told_of result ≡ asked rec question.place question.access question.thread }
     {
         let Question {
             place,

@@ -34,14 +34,14 @@ pub enum Reply {
 
 // The monitor after all calls, and the answer to each, in order.
 #[derive(Drop)]
-pub struct Session<K> {
+pub struct Session<K: Keeper> {
     pub monitor: Monitor<K>,
     pub replies: Vec<Reply>,
 }
 
 // Makes one call.
 fn answer<K: Keeper>(monitor: &mut Monitor<K>, call: Call) -> Reply
-    ensures { (rec : List AnEvent) → Stands K.live K.meaning rec monitor.old → RightReply rec call result × Stands K.live K.meaning (after rec call result) monitor.new }
+    ensures { (rec : List AnEvent) → Stands rec monitor.old → RightReply rec call result × Stands (after rec call result) monitor.new }
 {
     match call {
         Call::Offer(event) => Reply::Judged(monitor.offer(event)),
@@ -72,7 +72,8 @@ impl Call {
     }
 }
 
-// Lets all calls go. A call has no `Drop`, since a slip has none, so the queue is emptied call by call.
+// Lets all calls go. A call has no `Drop`, since a slip has none, so the queue is emptied call by call. Nothing comes out
+// that a clause could speak of.
 pub fn abandon_all(mut calls: VecDeque<Call>) {
     while let Some(call) = calls.pop_front() {
         call.abandon();
@@ -88,7 +89,7 @@ pub fn answer_all<K: Keeper>(
     mut calls: VecDeque<Call>,
 ) -> Result<Session<K>, K>
     ensures promise { IfOk result (λ s. Promise [] calls.items s.replies.items) }
-    ensures stands { IfOk result (λ s. Stands K.live K.meaning (record_after [] calls.items s.replies.items) s.monitor) }
+    ensures stands { IfOk result (λ s. Stands (record_after [] calls.items s.replies.items) s.monitor) }
     ensures examples { IfOk result (λ s. AllByRecursion (AnsweredAs calls.items s.replies.items) examples) }
 {
     let Ok(mut replies) = Vec::with_capacity(heap, calls.len()) else {

@@ -68,8 +68,8 @@ impl Slip {
 
     // Offers the transaction's commit; the slip is spent, whatever the answer.
     pub fn commit<K: Keeper>(self, monitor: &mut Monitor<K>) -> Verdict
-        ensures answer { Judges K.live K.meaning monitor.old (commit_of self) result monitor.new }
-        ensures keeper { Works K.live K.meaning monitor.old (commit_of self) result monitor.new }
+        ensures answer { Judges monitor.old (commit_of self) result monitor.new }
+        ensures keeper { Works monitor.old (commit_of self) result monitor.new }
         ensures unchanged { UnlessAccepted result (monitor.new ≡ monitor.old) }
     {
         let Slip {

@@ -42,15 +42,12 @@ pub(crate) fn ask_all(rt: &HostRuntime) -> anyhow::Result<()> {
     let mut monitor = begun();
     let _ = monitor.offer(RACING);
     for &(place, access, thread) in &QUESTIONS {
-        ask(
-            rt,
-            &monitor,
-            Question {
-                place,
-                access,
-                thread,
-            },
-        )?;
+        let question = Question {
+            place,
+            access,
+            thread,
+        };
+        ask(rt, &monitor, question)?;
     }
     let declined = Question {
         place: 5,

@@ -1,18 +1,21 @@
 -- Accesses on slot k of place p, by the number 9p + k of the slot. Assumes nothing.
 use Rattle.std.proofs.Common.{◌≡◌, ℕ, zero, suc, ◌+◌, ◌*◌, ◌/◌, ◌<◌, ◌≤◌, Bool, true, false, cond, not, ◌&&◌, ◌||◌, eqb, ltb, leb, [], sym, refl, ap, ◌∙◌, inl, inr, arith}
-use Rattle.std.proofs.lemmas.Bool.{cases_eq, cond-true, cond-false, and_left, and_right, or_from, ne_eqb, eq-eqb, lt-ltb, le-ltb}
+use Rattle.std.proofs.lemmas.Bool.{cases_eq, cond-true, cond-false, and_left, and_right, or_from, ne_eqb, eq-eqb}
 use Rattle.std.proofs.lemmas.Bool.Decides.{nat_tests}
 use Rattle.events.specs.declared.Event.{Event}
 use Rattle.events.specs.declared.Action.{Action}
 use Rattle.events.specs.declared.Action.TheVariants.{Read, Write, Acquire, Release, ReadFlag, WriteFlag, Fork, Join, Allocate, Commit}
 use Rattle.events.specs.declared.PlaceSet.{PlaceSet}
-use Rattle.events.specs.Places.{member}
+use lib.Bits.{bit_or}
+use Rattle.events.specs.Places.{member, those_below}
+use Rattle.order.proofs.Passes.{has, has_those_below, those_below_has}
+use Rattle.slots.proofs.Places.{member_or}
 use Rattle.order.specs.Acts.{allocates, writes_place, reads_place}
 use Rattle.order.specs.Computing.{acts}
 use Rattle.order.specs.Slots.{begins, forgets, changed}
 use Rattle.order.specs.Work.{accesses}
 use Rattle.keepers.specs.Meaning.{is_slot}
-use Rattle.slots.specs.Serials.{by_read, by_write, by_commit, by_commit_at}
+use Rattle.slots.specs.Serials.{by_read, by_write, by_commit}
 
 pub read_at : (q u n p k x : ℕ) → u < 8 → p < 64 → k < 9 → cond (is_slot (9 * q + (u + 1)) && eqb (9 * p + k) (9 * q + (u + 1))) n x ≡ by_read q u n p k x
 unfolding by_read
@@ -43,58 +46,71 @@ forget_next first i s x y l r e = grind (arith, nat_tests)
 pub forget_nothing : (first s x : ℕ) → x ≡ cond (leb first s && ltb s first) 0 x
 forget_nothing first s x = grind (arith, nat_tests)
 
--- what a commit does to the slots of one place
-module _ (q r w u n p k x : ℕ) where
-  -- the place's own sets decide, and other places stay
-  at_place : (y : ℕ) → (q ≡ p → y ≡ by_commit r w u n p k x) → ((q ≡ p → ⊥) → y ≡ x) → y ≡ by_commit_at q r w u n p k x
-  unfolding by_commit_at
-  at_place y here there = elim (cases_eq q p) [
-    | inl e ↦ here e ∙ sym (cond-true (eqb q p) (by_commit r w u n p k x) x (eq-eqb q p e))
-    | inr o ↦ there o ∙ sym (cond-false (eqb q p) (by_commit r w u n p k x) x (ne_eqb q p o))
-  ]
+-- what a commit makes of the serial x of slot k of one of its places
+abbrev pub at_place : ℕ → ℕ → ℕ → ℕ → ℕ → ℕ → ℕ
+at_place w u n p k x = cond (member w p) (cond (eqb k 0) n 0) (cond (eqb k (u + 1)) n x)
 
-  pub commit_writes : member w q ≡ true → by_write q n p k x ≡ by_commit_at q r w u n p k x
-  unfolding by_write by_commit
-  commit_writes h =
-      at_place (by_write q n p k x)
-      (λ e. cond-true (eqb q p) (cond (eqb k 0) n 0) x (eq-eqb q p e) ∙ sym (cond-true (member w p) (cond (eqb k 0) n 0) _ (ap (member w) (sym e) ∙ h)))
-      (λ o. cond-false (eqb q p) (cond (eqb k 0) n 0) x (ne_eqb q p o))
+same_cond : {A : Type 0} (b : Bool) (x : A) → cond b x x ≡ x
+same_cond true x = refl
+same_cond false x = refl
 
-  pub commit_reads : member w q ≡ false → member r q ≡ true → by_read q u n p k x ≡ by_commit_at q r w u n p k x
-  unfolding by_read by_commit
-  commit_reads h i =
-      at_place (by_read q u n p k x)
-      (λ e.
-      ap (λ b. cond (b && eqb k (u + 1)) n x) (eq-eqb q p e ∙ sym (ap (member r) (sym e) ∙ i))
-      ∙ sym (cond-false (member w p) (cond (eqb k 0) n 0) _ (ap (member w) (sym e) ∙ h)))
-      (λ o. cond-false (eqb q p && eqb k (u + 1)) n x (and_left (eqb q p) (eqb k (u + 1)) (ne_eqb q p o)))
+twice_cond : {A : Type 0} (b : Bool) (x y : A) → cond b x (cond b x y) ≡ cond b x y
+twice_cond true x y = refl
+twice_cond false x y = refl
 
-  pub commit_skips : member w q ≡ false → member r q ≡ false → x ≡ by_commit_at q r w u n p k x
-  unfolding by_commit
-  commit_skips h i =
-      at_place x
-      (λ e.
-      sym (cond-false (member r p && eqb k (u + 1)) n x (and_left (member r p) (eqb k (u + 1)) (ap (member r) (sym e) ∙ i)))
-      ∙ sym (cond-false (member w p) (cond (eqb k 0) n 0) _ (ap (member w) (sym e) ∙ h)))
-      (λ o. refl)
+-- place q is accessed, and then those of a list that has p just if b says so
+module _ (q w u n p k x : ℕ) (b : Bool) where
+  other : (y : ℕ) → y ≡ x → (eqb q p) ≡ false → cond b (at_place w u n p k y) y ≡ cond (eqb q p || b) (at_place w u n p k x) x
+  other y same apart = ap (λ z. cond b (at_place w u n p k z) z) same ∙ ap (λ c. cond (c || b) (at_place w u n p k x) x) (sym apart)
 
-  -- the places below q have been accessed, and now q is
-  pub commit_step : by_commit_at q r w u n p k (cond (ltb p q) (by_commit r w u n p k x) x) ≡ cond (ltb p (q + 1)) (by_commit r w u n p k x) x
-  unfolding by_commit_at
-  commit_step =
-      let c : ℕ = by_commit r w u n p k x in
+  own : (y : ℕ) → at_place w u n p k y ≡ y → y ≡ at_place w u n p k x → eqb q p ≡ true → cond b (at_place w u n p k y) y ≡ cond (eqb q p || b) (at_place w u n p k x) x
+  own y still same is = ap (λ z. cond b z y) still ∙ same_cond b y ∙ same ∙ ap (λ c. cond (c || b) (at_place w u n p k x) x) (sym is)
+
+  pub write_then : member w q ≡ true → cond b (at_place w u n p k (by_write q n p k x)) (by_write q n p k x) ≡ cond (eqb q p || b) (at_place w u n p k x) x
+  unfolding by_write
+  write_then h =
       elim (cases_eq q p) [
-        | inl e ↦
-            cond-true (eqb q p) _ _ (eq-eqb q p e)
-            ∙ ap (by_commit r w u n p k) (cond-false (ltb p q) c x (le-ltb p q (omega arith)))
-            ∙ sym (cond-true (ltb p (q + 1)) c x (lt-ltb p (q + 1) (omega arith)))
-        | inr o ↦
-            let same : ltb p q ≡ ltb p (q + 1) = grind (arith, nat_tests) in
-            cond-false (eqb q p) _ _ (ne_eqb q p o) ∙ ap (λ b. cond b c x) same
+        | inl e ↦ (
+            let is = eq-eqb q p e in
+            let writes : member w p ≡ true = ap (member w) (sym e) ∙ h in
+            let y = cond (eqb q p) (cond (eqb k 0) n 0) x in
+            let here : (z : ℕ) → at_place w u n p k z ≡ cond (eqb k 0) n 0 = λ z. cond-true (member w p) (cond (eqb k 0) n 0) (cond (eqb k (u + 1)) n z) writes in
+            let read : y ≡ cond (eqb k 0) n 0 = cond-true (eqb q p) (cond (eqb k 0) n 0) x is in
+            own y (here y ∙ sym read) (read ∙ sym (here x)) is)
+        | inr o ↦ let apart = ne_eqb q p o in other (cond (eqb q p) (cond (eqb k 0) n 0) x) (cond-false (eqb q p) (cond (eqb k 0) n 0) x apart) apart
       ]
 
-pub commit_start : (p c x : ℕ) → x ≡ cond (ltb p 0) c x
-commit_start p c x = sym (cond-false (ltb p 0) c x (le-ltb p 0 (omega arith)))
+  pub read_then : member w q ≡ false → cond b (at_place w u n p k (by_read q u n p k x)) (by_read q u n p k x) ≡ cond (eqb q p || b) (at_place w u n p k x) x
+  unfolding by_read
+  read_then h =
+      elim (cases_eq q p) [
+        | inl e ↦ (
+            let is = eq-eqb q p e in
+            let reads : member w p ≡ false = ap (member w) (sym e) ∙ h in
+            let y = cond (eqb q p && eqb k (u + 1)) n x in
+            let here : (z : ℕ) → at_place w u n p k z ≡ cond (eqb k (u + 1)) n z = λ z. cond-false (member w p) (cond (eqb k 0) n 0) (cond (eqb k (u + 1)) n z) reads in
+            let read : y ≡ cond (eqb k (u + 1)) n x = ap (λ c. cond (c && eqb k (u + 1)) n x) is in
+            own y (here y ∙ ap (cond (eqb k (u + 1)) n) read ∙ twice_cond (eqb k (u + 1)) n x ∙ sym read) (read ∙ sym (here x)) is)
+        | inr o ↦ let apart = ne_eqb q p o in other (cond (eqb q p && eqb k (u + 1)) n x) (cond-false (eqb q p && eqb k (u + 1)) n x (and_left (eqb q p) (eqb k (u + 1)) apart)) apart
+      ]
+
+-- accessing the places of both sets is all that a commit does
+pub commit_places : (r w u n p k x : ℕ) → p < 64 → cond (has (those_below 64 (member (bit_or r w))) p) (at_place w u n p k x) x ≡ by_commit r w u n p k x
+unfolding by_commit
+commit_places r w u n p k x place =
+    let f = member (bit_or r w) in
+    ap (λ b. cond b (at_place w u n p k x) x) (same_bool (has (those_below 64 f) p) (f p) (λ h. (those_below_has 64 f p h).1) (has_those_below 64 f p place) ∙ member_or r w p) ∙ at_test (member r p) (member w p)
+  where
+    same_bool : (a b : Bool) → (a ≡ true → b ≡ true) → (b ≡ true → a ≡ true) → a ≡ b
+    same_bool true b f g = sym (f refl)
+    same_bool false true f g = g refl
+    same_bool false false f g = refl
+
+    at_test : (a b : Bool) → cond (a || b) (cond b (cond (eqb k 0) n 0) (cond (eqb k (u + 1)) n x)) x ≡ cond b (cond (eqb k 0) n 0) (cond (a && eqb k (u + 1)) n x)
+    at_test true true = refl
+    at_test true false = refl
+    at_test false true = refl
+    at_test false false = refl
 
 -- an event of thread t that does a
 abbrev event : ℕ → Action → Event

@@ -1,16 +1,16 @@
 -- Lists of calls on a keeper, one more at a time. Assumes nothing.
-use Rattle.std.proofs.Common.{◌≡◌, ℕ, suc, ◌+◌, ◌-◌, ◌<◌, ◌≤◌, min, true, false, List, [], ◌∷◌, ◌++◌, sym, refl, ap, ◌∙◌, inl, inr, add-one, arith}
-use mathlib.Core.List.{map-append}
+use Rattle.std.proofs.Common.{◌≡◌, ℕ, zero, suc, ◌+◌, ◌-◌, ◌<◌, ◌≤◌, min, Bool, true, false, cond, ◌||◌, List, [], ◌∷◌, ◌++◌, sym, refl, ap, ◌∙◌, inl, inr, append-nil, append_assoc, arith}
+use lib.Bits.{bit_or}
 use Rattle.std.proofs.lemmas.Bool.{cases_lt}
-use Rattle.events.specs.Places.{member}
+use Rattle.events.specs.Places.{member, those_below}
 use Rattle.keepers.specs.Meaning.{Meaning, forgotten, passed}
 use Rattle.keepers.proofs.Laws.{passed_same}
 use Rattle.events.specs.declared.Event.{Event}
 use Rattle.order.specs.Slots.{taken, given}
-use Rattle.order.specs.Work.{Call, pass, forget_from, committed, accesses, calls}
-use Rattle.slots.specs.Made.{called, made, passes_in, passes_out, committed_at}
-use Rattle.slots.specs.Partners.{places_below, capped}
-use Rattle.slots.proofs.Places.{places_more, places_same, places_none}
+use Rattle.order.specs.Work.{Call, forget_from, written, looked_at, committed, accesses, calls}
+use Rattle.slots.specs.Made.{called, made, passes_in, passes_out}
+use Rattle.slots.specs.Partners.{capped}
+use Rattle.slots.proofs.Places.{member_or}
 
 pub made_append : (cs ds : List Call) (m : Meaning) → made (cs ++ ds) m ≡ made ds (made cs m)
 made_append [] ds m = refl
@@ -40,28 +40,6 @@ pub capped_out : (t : ℕ) (hs : List ℕ) (m : Meaning) → made (passes_out t 
 capped_out t [] m = refl
 capped_out t (h ∷ hs) m = capped_out t hs (passed m t (min h 255)) ∙ ap (made (passes_out t hs)) (capped_to m t h)
 
--- the steps of the loops over places
-module _ (t n w : ℕ) (m : Meaning) where
-  pub gather_none : made (passes_in t (places_below 0 w)) m ≡ m
-  gather_none = ap (λ hs. made (passes_in t hs) m) (places_none w)
-
-  pub gather_more : member w n ≡ true → made (passes_in t (places_below (n + 1) w)) m ≡ passed (made (passes_in t (places_below n w)) m) (72 + n) t
-  gather_more h =
-      ap (λ hs. made (passes_in t hs) m) (places_more n w h) ∙ ap (λ cs. made cs m) (map-append (λ a. pass a t) (places_below n w) _) ∙ made_append (passes_in t (places_below n w)) _ m
-
-  pub gather_same : member w n ≡ false → made (passes_in t (places_below (n + 1) w)) m ≡ made (passes_in t (places_below n w)) m
-  gather_same h = ap (λ hs. made (passes_in t hs) m) (places_same n w h)
-
-  pub spread_none : made (passes_out t (places_below 0 w)) m ≡ m
-  spread_none = ap (λ hs. made (passes_out t hs) m) (places_none w)
-
-  pub spread_more : member w n ≡ true → made (passes_out t (places_below (n + 1) w)) m ≡ passed (made (passes_out t (places_below n w)) m) t (72 + n)
-  spread_more h =
-      ap (λ hs. made (passes_out t hs) m) (places_more n w h) ∙ ap (λ cs. made cs m) (map-append (λ a. pass t a) (places_below n w) _) ∙ made_append (passes_out t (places_below n w)) _ m
-
-  pub spread_same : member w n ≡ false → made (passes_out t (places_below (n + 1) w)) m ≡ made (passes_out t (places_below n w)) m
-  spread_same h = ap (λ hs. made (passes_out t hs) m) (places_same n w h)
-
 -- the steps of the loop that forgets the slots below an end
 pub forget_more : (end i : ℕ) (m : Meaning) → i < end → made (forget_from (end - i) i) m ≡ made (forget_from (end - (i + 1)) (i + 1)) (forgotten m i)
 unfolding forget_from
@@ -73,14 +51,45 @@ pub forget_ends : (end i : ℕ) (m : Meaning) → end ≤ i → made (forget_fro
 unfolding forget_from
 forget_ends end i m l = let none : end - i ≡ 0 = omega arith in ap (λ n. made (forget_from n i) m) none
 
--- the steps of the loop over a commit's places
-pub commit_none : (t r w : ℕ) (m : Meaning) → made (committed 0 t r w) m ≡ m
-unfolding committed
-commit_none t r w m = refl
+-- a commit's accesses of the places of its sets: it reads those that it does not write
+abbrev at_place : ℕ → ℕ → ℕ → List Call
+at_place t w p = cond (member w p) (written t p) (looked_at t p)
 
-pub commit_more : (n t r w : ℕ) (m : Meaning) → made (committed (n + 1) t r w) m ≡ made (committed_at n t r w) (made (committed n t r w) m)
-unfolding committed
-commit_more n t r w m = ap (λ k. made (committed k t r w) m) (add-one n) ∙ made_append (committed n t r w) _ m
+abbrev pub commits : ℕ → ℕ → List ℕ → List Call
+commits t w [] = []
+commits t w (p ∷ ps) = at_place t w p ++ commits t w ps
+
+commits_append : (t w : ℕ) (ps : List ℕ) (p : ℕ) → commits t w (ps ++ p ∷ []) ≡ commits t w ps ++ at_place t w p
+commits_append t w [] p = append-nil (at_place t w p)
+commits_append t w (q ∷ ps) p = ap (λ cs. at_place t w q ++ cs) (commits_append t w ps p) ∙ sym (append_assoc (at_place t w q) (commits t w ps) (at_place t w p))
+
+pub commits_all : (n t r w : ℕ) → committed n t r w ≡ commits t w (those_below n (member (bit_or r w)))
+unfolding committed those_below
+commits_all zero t r w = refl
+commits_all (suc n) t r w =
+    ap (λ cs. cs ++ cond (member w n) (written t n) (cond (member r n) (looked_at t n) [])) (commits_all n t r w)
+    ∙ ap (λ cs. commits t w ps ++ cs) (either (member r n) (member w n))
+    ∙ last (member r n || member w n)
+    ∙ ap (λ b. commits t w (ps ++ cond b (n ∷ []) [])) (sym (member_or r w n))
+  where
+    ps : List ℕ
+    ps = those_below n (member (bit_or r w))
+
+    either : (x y : Bool) → cond y (written t n) (cond x (looked_at t n) []) ≡ cond (x || y) (cond y (written t n) (looked_at t n)) []
+    either true y = refl
+    either false true = refl
+    either false false = refl
+
+    last : (b : Bool) → commits t w ps ++ cond b (at_place t w n) [] ≡ commits t w (ps ++ cond b (n ∷ []) [])
+    last true = sym (commits_append t w ps n)
+    last false = append-nil (commits t w ps) ∙ ap (commits t w) (sym (append-nil ps))
+
+module _ (t w p : ℕ) (ps : List ℕ) (m : Meaning) where
+  pub commits_write : member w p ≡ true → made (commits t w (p ∷ ps)) m ≡ made (commits t w ps) (made (written t p) m)
+  commits_write is = ap (λ b. made (cond b (written t p) (looked_at t p) ++ commits t w ps) m) is ∙ made_append (written t p) (commits t w ps) m
+
+  pub commits_read : member w p ≡ false → made (commits t w (p ∷ ps)) m ≡ made (commits t w ps) (made (looked_at t p) m)
+  commits_read is = ap (λ b. made (cond b (written t p) (looked_at t p) ++ commits t w ps) m) is ∙ made_append (looked_at t p) (commits t w ps) m
 
 -- passes to the thread, accesses, passes from the thread: all calls of the event
 pub all_made : (e : Event) (ins outs : List ℕ) (m₀ m₁ m₂ m₃ : Meaning) → ins ≡ capped (taken e.action) → outs ≡ capped (given e.action) → m₁ ≡ made (passes_in e.thread ins) m₀ → m₂ ≡ made (accesses e.thread e.action) m₁ → m₃ ≡ made (passes_out e.thread outs) m₂ → m₃ ≡ made (calls e) m₀

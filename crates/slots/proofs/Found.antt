@@ -1,6 +1,17 @@
 -- The search for a race, step by step. Assumes nothing.
-use Rattle.std.proofs.Common.{◌≡◌, ℕ, ◌+◌, ◌-◌, ◌*◌, ◌<◌, ◌≤◌, true, false, ◌||◌, eqb, Some, None, Option, sym, refl, ap, ◌∙◌, inl, inr, arith}
-use Rattle.std.proofs.lemmas.Bool.{cases_eq, cond-true, cond-false, or_left, or_right, or_from, eq-eqb, ne_eqb}
+use Rattle.std.proofs.Common.{◌≡◌, ℕ, zero, suc, ◌+◌, ◌*◌, ◌<◌, Bool, true, false, cond, not, ◌&&◌, ◌||◌, eqb, List, [], ◌∷◌, ◌++◌, Some, None, Option, sym, refl, ap, ap₂, ◌∙◌, inl, inr, add-zero, zero-add, arith}
+use Rattle.std.specs.Bool.{then_some}
+use Rattle.std.specs.List.{range_with_len}
+use Rattle.std.proofs.lemmas.Option.{none-some}
+use Rattle.events.specs.Places.{member, those_below}
+use Rattle.keepers.specs.Meaning.{Meaning}
+use Rattle.slots.specs.Bounds.{InBounds}
+use Rattle.slots.specs.Made.{set_at, held_at}
+use Rattle.slots.specs.Serials.{some_serial}
+use Rattle.slots.proofs.Places.{held_in_range, some_in_range}
+use Rattle.slots.proofs.Ranges.{in_range, thread_in_range, taken_holders}
+use Rattle.slots.proofs.Finding.{first_some}
+use Rattle.std.proofs.lemmas.Bool.{cases_eq, cond-true, cond-false, or_left, or_right, or_from, ne_eqb, false≢true}
 use Rattle.events.specs.declared.Event.{Event}
 use Rattle.events.specs.declared.Action.{Action}
 use Rattle.events.specs.declared.Action.TheVariants.{Read, Write, Acquire, Release, ReadFlag, WriteFlag, Fork, Join, Allocate, Commit}
@@ -12,7 +23,7 @@ use Rattle.order.specs.Judgement.{Finding, found}
 use Rattle.order.specs.Searches.{first_from, or_else}
 use Rattle.order.specs.Slots.{Set, taken}
 use Rattle.order.proofs.Options.{some_not_none}
-use Rattle.order.proofs.Searches.{first_passes, first_stops, first_ends, first_from_cases}
+use Rattle.order.proofs.Searches.{first_from_cases, first_from_same}
 
 -- whether an access has arrived
 pub arrived_own : (e : Event) (s : Set) → s e.thread ≡ true → arrived e s ≡ true
@@ -23,47 +34,63 @@ pub arrived_else : (e : Event) (s : Set) → s e.thread ≡ false → arrived e 
 unfolding arrived
 arrived_else e s h = ap (λ b. b || some_in (taken e.action) s) h
 
-pub pending_empty : (e : Event) (n : ℕ) (s : Set) → n ≡ 0 → pending e n s ≡ None
+-- an access that is there is pending unless it has arrived
+pub pending_none : (e : Event) (n : ℕ) (s : Set) → some_serial n ≡ None → pending e n s ≡ None
 unfolding pending
-pending_empty e n s h = cond-true (eqb n 0 || arrived e s) None (Some n) (or_left (eqb n 0) _ (eq-eqb n 0 h))
+pending_none e n s none = at_test (eqb n 0) (arrived e s) none
+  where
+    at_test : (b a : Bool) → cond b None (Some n) ≡ None → cond (b || a) None (Some n) ≡ None
+    at_test true a none = refl
+    at_test false true none = refl
+    at_test false false none = none
 
-pub pending_arrived : (e : Event) (n : ℕ) (s : Set) → arrived e s ≡ true → pending e n s ≡ None
+pub pending_some : (e : Event) (n : ℕ) (s : Set) (m : ℕ) → some_serial n ≡ Some m → pending e n s ≡ then_some (not (arrived e s)) m
 unfolding pending
-pending_arrived e n s h = cond-true (eqb n 0 || arrived e s) None (Some n) (or_right (eqb n 0) _ h)
+pending_some e n s m some = at_test (eqb n 0) (arrived e s) some
+  where
+    at_test : (b a : Bool) → cond b None (Some n) ≡ Some m → cond (b || a) None (Some n) ≡ then_some (not a) m
+    at_test true a some = absurd (none-some m some)
+    at_test false true some = refl
+    at_test false false some = some
 
-pub pending_left : (e : Event) (n : ℕ) (s : Set) → (n ≡ 0 → ⊥) → arrived e s ≡ false → pending e n s ≡ Some n
-unfolding pending
-pending_left e n s o h = cond-false (eqb n 0 || arrived e s) None (Some n) (or_from (eqb n 0) (arrived e s) (ne_eqb n 0 o) h)
+or_else_none : {A : Type 0} (o : Option A) → or_else o None ≡ o
+or_else_none (Some a) = refl
+or_else_none None = refl
 
--- the search among the reads of a place: n and s give the place's cells
+or_else_assoc : {A : Type 0} (a b c : Option A) → or_else (or_else a b) c ≡ or_else a (or_else b c)
+or_else_assoc (Some a) b c = refl
+or_else_assoc None b c = refl
+
+-- a search over numbers in a row, along their list
+pub first_along : {A : Type 0} (n k i a : ℕ) (f g : ℕ → Option A) → i ≡ a + k → ((t : ℕ) → f (a + t) ≡ g t) → first_some f (range_with_len i n) ≡ first_from n k g
+unfolding first_from
+first_along zero k i a f g from same = refl
+first_along (suc n) k i a f g from same = ap₂ or_else (ap f from ∙ same k) (first_along n (k + 1) (i + 1) a f g (omega arith) same)
+
+module _ {A : Type 0} (f : ℕ → Option A) where
+  first_append : (xs ys : List ℕ) → first_some f (xs ++ ys) ≡ or_else (first_some f xs) (first_some f ys)
+  first_append [] ys = refl
+  first_append (x ∷ xs) ys = ap (or_else (f x)) (first_append xs ys) ∙ sym (or_else_assoc (f x) (first_some f xs) (first_some f ys))
+
+  first_last : (n k : ℕ) → first_from (suc n) k f ≡ or_else (first_from n k f) (f (k + n))
+  unfolding first_from
+  first_last zero k = or_else_none (f k) ∙ ap f (sym (add-zero k))
+  first_last (suc n) k =
+      let same : k + 1 + n ≡ k + suc n = omega arith in
+      ap (or_else (f k)) (first_last n (k + 1) ∙ ap (λ i. or_else (first_from n (k + 1) f) (f i)) same) ∙ sym (or_else_assoc (f k) (first_from n (k + 1) f) (f (k + suc n)))
+
+  -- numbers that have no answer may be left out
+  pub first_among : (n : ℕ) (test : ℕ → Bool) → ((i : ℕ) → test i ≡ false → f i ≡ None) → first_from n 0 f ≡ first_some f (those_below n test)
+  unfolding first_from those_below
+  first_among zero test none = refl
+  first_among (suc n) test none = first_last n 0 ∙ ap₂ or_else (first_among n test none) (ap f (zero-add n)) ∙ last (test n) (none n) ∙ sym (first_append (those_below n test) (cond (test n) (n ∷ []) []))
+    where
+      last : (b : Bool) → (b ≡ false → f n ≡ None) → or_else (first_some f (those_below n test)) (f n) ≡ or_else (first_some f (those_below n test)) (first_some f (cond b (n ∷ []) []))
+      last true none = ap (or_else (first_some f (those_below n test))) (sym (or_else_none (f n)))
+      last false none = ap (or_else (first_some f (those_below n test))) (none refl)
+
+-- the witness at a place: n and s give its cells
 module _ (e : Event) (n : ℕ → ℕ) (s : ℕ → Set) where
-  unfoldable pub read_of : ℕ → Option ℕ
-  read_of t = pending e (n (t + 1)) (s (t + 1))
-
-  -- no thread below t has been found
-  abbrev pub ReadsFrom : ℕ → Type 0
-  ReadsFrom t = first_from (8 - t) t read_of ≡ cell_read e n s
-
-  pub reads_start : ReadsFrom 0
-  unfolding read_of cell_read
-  reads_start = refl
-
-  pub reads_pass : (t : ℕ) → t < 8 → pending e (n (t + 1)) (s (t + 1)) ≡ None → ReadsFrom t → ReadsFrom (t + 1)
-  unfolding read_of
-  reads_pass t l h so_far = sym (first_passes read_of 8 t l h) ∙ so_far
-
-  pub reads_stop : (t a : ℕ) → t < 8 → pending e (n (t + 1)) (s (t + 1)) ≡ Some a → ReadsFrom t → cell_read e n s ≡ Some a
-  unfolding read_of
-  reads_stop t a l h so_far = sym so_far ∙ first_stops read_of 8 t a l h
-
-  pub reads_end : (t : ℕ) → 8 ≤ t → ReadsFrom t → cell_read e n s ≡ None
-  reads_end t l so_far = sym so_far ∙ first_ends read_of 8 t l
-
-  -- the witness at a place
-  or_else_none : (o : Option ℕ) → or_else o None ≡ o
-  or_else_none (Some a) = refl
-  or_else_none None = refl
-
   pub witness_write : (p : ℕ) → writes_place e p ≡ true → cell_witness e p n s ≡ or_else (pending e (n 0) (s 0)) (cell_read e n s)
   unfolding cell_witness touches
   witness_write p h =
@@ -87,34 +114,24 @@ module _ (e : Event) (n : ℕ → ℕ → ℕ) (s : ℕ → ℕ → Set) where
   unfoldable pub race_of : ℕ → Option Finding
   race_of p = found p (cell_witness e p (n p) (s p))
 
-  -- no place below p has been found
-  abbrev pub RacesFrom : ℕ → Type 0
-  RacesFrom p = first_from (64 - p) p race_of ≡ cell_race e n s
-
-  pub races_start : RacesFrom 0
-  unfolding race_of cell_race
-  races_start = refl
-
-  pub races_pass : (p : ℕ) → p < 64 → found p (cell_witness e p (n p) (s p)) ≡ None → RacesFrom p → RacesFrom (p + 1)
-  unfolding race_of
-  races_pass p l h so_far = sym (first_passes race_of 64 p l h) ∙ so_far
-
-  pub races_stop : (p : ℕ) (a : Finding) → p < 64 → found p (cell_witness e p (n p) (s p)) ≡ Some a → RacesFrom p → cell_race e n s ≡ Some a
-  unfolding race_of
-  races_stop p a l h so_far = sym so_far ∙ first_stops race_of 64 p a l h
-
-  pub races_end : (p : ℕ) → 64 ≤ p → RacesFrom p → cell_race e n s ≡ None
-  races_end p l so_far = sym so_far ∙ first_ends race_of 64 p l
-
   untouched : (p : ℕ) → touches e p ≡ false → race_of p ≡ None
   unfolding race_of
   untouched p h = ap (found p) (witness_untouched e (n p) (s p) p h)
+
+  race_search : cell_race e n s ≡ first_from 64 0 race_of
+  unfolding race_of cell_race
+  race_search = refl
+
+  -- an event that touches no place but those that pass the test
+  pub race_among : (test : ℕ → Bool) → ((p : ℕ) → test p ≡ false → touches e p ≡ false) → cell_race e n s ≡ first_some (λ p. found p (cell_witness e p (n p) (s p))) (those_below 64 test)
+  unfolding race_of
+  race_among test others = race_search ∙ first_among race_of 64 test (λ p out. untouched p (others p out))
 
   -- an event that touches one place at most
   pub race_only : (p : ℕ) → p < 64 → ((q : ℕ) → (q ≡ p → ⊥) → touches e q ≡ false) → cell_race e n s ≡ found p (cell_witness e p (n p) (s p))
   unfolding race_of
   race_only p l others =
-      sym races_start ∙ elim (first_from_cases race_of 64 0) [
+      race_search ∙ elim (first_from_cases race_of 64 0) [
         | inl f ↦ f.1 ∙ elim (cases_eq f.2.at p) [
           | inl same ↦ sym f.2.is ∙ ap race_of same
           | inr other ↦ absurd (some_not_none (race_of f.2.at) f.0 f.2.is (untouched f.2.at (others f.2.at other)))
@@ -124,10 +141,29 @@ module _ (e : Event) (n : ℕ → ℕ → ℕ) (s : ℕ → ℕ → Set) where
 
   pub race_nowhere : ((q : ℕ) → touches e q ≡ false) → cell_race e n s ≡ None
   race_nowhere others =
-      sym races_start ∙ elim (first_from_cases race_of 64 0) [
+      race_search ∙ elim (first_from_cases race_of 64 0) [
         | inl f ↦ absurd (some_not_none (race_of f.2.at) f.0 f.2.is (untouched f.2.at (others f.2.at)))
         | inr f ↦ f.0
       ]
+
+-- an event in bounds asks for nobody out of range, so that the slots' own sets decide
+module _ (e : Event) (bounds : InBounds e) (n : ℕ → ℕ → ℕ) (m : Meaning) where
+  pending_in_range : (p k : ℕ) → p < 64 → k < 9 → pending e (n p k) (held_at m p k) ≡ pending e (n p k) (set_at m p k)
+  unfolding pending arrived
+  pending_in_range p k place slot =
+      let own = held_in_range m (9 * p + k) e.thread (omega arith) (let l = thread_in_range e bounds in omega arith) in
+      let taking = some_in_range m (9 * p + k) (taken e.action) (omega arith) (taken_holders e.action (in_range e bounds)) in
+      ap (λ b. cond (eqb (n p k) 0 || b) None (Some (n p k))) (ap₂ (λ a b. a || b) own taking)
+
+  witness_in_range : (p : ℕ) → p < 64 → cell_witness e p (n p) (held_at m p) ≡ cell_witness e p (n p) (set_at m p)
+  unfolding cell_witness cell_read
+  witness_in_range p place =
+      let reads = first_from_same _ _ 8 0 (λ t _ l. pending_in_range p (t + 1) place (omega arith)) in
+      ap₂ (λ a b. cond (touches e p) (or_else a (cond (writes_place e p) b None)) None) (pending_in_range p 0 place (omega arith)) reads
+
+  pub race_in_range : cell_race e n (held_at m) ≡ cell_race e n (set_at m)
+  unfolding cell_race
+  race_in_range = first_from_same _ _ 64 0 (λ p _ l. ap (found p) (witness_in_range p (omega arith)))
 
 -- which places an event touches
 abbrev event : ℕ → Action → Event
@@ -146,6 +182,19 @@ read_touches e p is q o = ap (λ a. touches (event e.thread a) q) is ∙ touched
 
 pub write_touches : (e : Event) (p : ℕ) → e.action ≡ Write p → (q : ℕ) → (q ≡ p → ⊥) → touches e q ≡ false
 write_touches e p is q o = ap (λ a. touches (event e.thread a) q) is ∙ touched_by_write e.thread p q o
+
+-- a commit touches no place outside its sets
+touched_by_commit : (t : ℕ) (r w : PlaceSet) (q : ℕ) → (member r.word q || member w.word q) ≡ false → touches (event t (Commit r w)) q ≡ false
+unfolding acts
+touched_by_commit t r w q out = at_test (member r.word q) (member w.word q) out
+  where
+    at_test : (a b : Bool) → (a || b) ≡ false → (false || true && b || (false || true && (a && not b))) ≡ false
+    at_test true b out = absurd (false≢true (sym out))
+    at_test false true out = absurd (false≢true (sym out))
+    at_test false false out = refl
+
+pub commit_touches : (e : Event) (r w : PlaceSet) → e.action ≡ Commit r w → (q : ℕ) → (member r.word q || member w.word q) ≡ false → touches e q ≡ false
+commit_touches e r w is q out = ap (λ a. touches (event e.thread a) q) is ∙ touched_by_commit e.thread r w q out
 
 -- the action is none of those that access places
 pub record Apart (a : Action) : Type 0 where

@@ -5,3 +5,4 @@ pub mod Accesses
 pub mod Ranges
 pub mod Effects
 pub mod Found
+pub mod Finding

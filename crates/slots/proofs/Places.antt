@@ -1,17 +1,17 @@
 -- The holders of the places of a set. Assumes nothing.
-use Rattle.std.proofs.Common.{◌≡◌, ℕ, zero, suc, ◌+◌, ◌/◌, ◌%◌, ◌^◌, ◌<◌, ◌≤◌, min, max, Bool, true, false, cond, ◌&&◌, ◌||◌, eqb, ltb, List, [], ◌∷◌, ◌++◌, map, sym, refl, ap, ◌∙◌, inl, inr, append-nil, add-one, arith}
-use mathlib.Core.List.{map-append}
+use Rattle.std.proofs.Common.{◌≡◌, ℕ, zero, suc, ◌+◌, ◌/◌, ◌%◌, ◌^◌, ◌<◌, ◌≤◌, min, max, Bool, true, false, cond, ◌&&◌, ◌||◌, eqb, ltb, List, [], ◌∷◌, map, refl, sym, ap, ◌∙◌, inl, inr, subst, arith}
 use mathlib.Core.Path.{fun_ext}
 use lib.Bits.{bit_or, or_step, or_shr}
 use Rattle.std.proofs.lemmas.Bool.Decides.{nat_tests}
-use Rattle.std.specs.List.{AllByRecursion}
+use Rattle.std.specs.List.{AllByRecursion, list_any}
 use Rattle.std.proofs.ByRecursion.{All-append}
+use Rattle.std.proofs.lemmas.Bool.{cases_lt, lt-ltb, le-ltb, and_from, and_left, and_right}
 use Rattle.events.specs.Places.{member, those_below}
-use Rattle.std.proofs.lemmas.Bool.{or_left, or_right, or_cases, eqb-true, false≢true}
-use Rattle.order.specs.Slots.{Set, place_holders_below, place_holders}
+use Rattle.keepers.specs.Meaning.{Meaning, is_slot, is_holder}
+use Rattle.order.specs.Slots.{place_holders_below, place_holders}
 use Rattle.order.specs.Cells.{some_in}
-use Rattle.order.proofs.Passes.{has, has_shifted, has_those_below}
-use Rattle.slots.specs.Partners.{places_below, capped}
+use Rattle.slots.specs.Made.{held}
+use Rattle.slots.specs.Partners.{capped, AllHolders}
 
 or_bit : (a b : ℕ) → bit_or a b % 2 ≡ max (a % 2) (b % 2)
 or_bit a b = omega (arith, or_step a b)
@@ -24,68 +24,55 @@ pub member_or : (r w p : ℕ) → member (bit_or r w) p ≡ (member r p || membe
 member_or r w p =
     ap (λ n. ltb p 64 && eqb n 1) (ap (λ x. x % 2) (or_shr r w p) ∙ or_bit (r / 2 ^ p) (w / 2 ^ p)) ∙ either_bit p (r / 2 ^ p % 2) (w / 2 ^ p % 2) (omega arith) (omega arith)
 
-pub places_are_holders : (n r w : ℕ) → places_below n (bit_or r w) ≡ place_holders_below n r w
-unfolding places_below place_holders_below
-places_are_holders n r w = ap (λ (f : ℕ → Bool). map (λ p. 72 + p) (those_below n f)) (fun_ext (member_or r w))
+pub union_holders : (r w : ℕ) → map (λ p. 72 + p) (those_below 64 (member (bit_or r w))) ≡ place_holders r w
+unfolding place_holders_below
+union_holders r w = ap (λ (f : ℕ → Bool). map (λ p. 72 + p) (those_below 64 f)) (fun_ext (member_or r w))
 
--- every holder of a place is below 136
-pub holders_small : (n r w : ℕ) → n ≤ 64 → AllByRecursion (λ h. h < 136) (place_holders_below n r w)
-unfolding place_holders_below those_below
-holders_small zero r w l = tt
-holders_small (suc n) r w l =
-    let f : ℕ → Bool = λ p. member r p || member w p in
-    rw (map-append (λ p. 72 + p) (those_below n f) (cond (f n) (n ∷ []) [])) (All-append (λ h. h < 136) _ _ (holders_small n r w (omega arith)) (last (f n)))
+-- those below n are below n
+those_small : (n m : ℕ) (f : ℕ → Bool) → n ≤ m → AllByRecursion (λ p. p < m) (those_below n f)
+unfolding those_below
+those_small zero m f l = tt
+those_small (suc n) m f l = All-append (λ p. p < m) (those_below n f) _ (those_small n m f (omega arith)) (last (f n))
   where
-    last : (b : Bool) → AllByRecursion (λ h. h < 136) (map (λ p. 72 + p) (cond b (n ∷ []) []))
+    last : (b : Bool) → AllByRecursion (λ p. p < m) (cond b (n ∷ []) [])
     last true = (omega arith, tt)
     last false = tt
 
-pub capped_same : (hs : List ℕ) → AllByRecursion (λ h. h < 136) hs → capped hs ≡ hs
+pub first_small : (f : ℕ → Bool) (p : ℕ) (ps : List ℕ) → those_below 64 f ≡ p ∷ ps → p < 64
+first_small f p ps is = (subst (AllByRecursion (λ q. q < 64)) is (those_small 64 64 f (omega arith))).0
+
+-- every holder of a place is below 136
+shifted_small : (ps : List ℕ) → AllByRecursion (λ p. p < 64) ps → AllHolders (map (λ p. 72 + p) ps)
+shifted_small [] small = tt
+shifted_small (p ∷ ps) small = (let l = small.0 in omega arith, shifted_small ps small.1)
+
+pub holders_small : (r w : ℕ) → AllHolders (place_holders r w)
+unfolding place_holders_below
+holders_small r w = shifted_small _ (those_small 64 64 _ (omega arith))
+
+pub capped_same : (hs : List ℕ) → AllHolders hs → capped hs ≡ hs
 capped_same [] small = refl
 capped_same (h ∷ hs) small = let l = small.0 in let same : min h 255 ≡ h = omega arith in (λ d. same d ∷ capped_same hs small.1 d)
 
-pub union_listed : (r w : ℕ) → places_below 64 (bit_or r w) ≡ capped (place_holders r w)
-union_listed r w = places_are_holders 64 r w ∙ sym (capped_same (place_holders r w) (holders_small 64 r w (omega arith)))
+-- holders are in a slot's set, all in range
+pub held_in_range : (m : Meaning) (slot h : ℕ) → slot < 576 → h < 136 → held m slot h ≡ m.sets slot h
+held_in_range m slot h l k = ap (λ b. b && m.sets slot h) (and_from (is_slot slot) (is_holder h) (lt-ltb slot 576 l) (lt-ltb h 136 k))
 
--- the next place is in the set, or not
-pub places_more : (n w : ℕ) → member w n ≡ true → places_below (n + 1) w ≡ places_below n w ++ (72 + n) ∷ []
-unfolding places_below those_below
-places_more n w h =
-    ap (λ m. places_below m w) (add-one n) ∙ map-append (λ p. 72 + p) (those_below n (member w)) _ ∙ ap (λ b. map (λ p. 72 + p) (those_below n (member w)) ++ map (λ p. 72 + p) (cond b (n ∷ []) [])) h
+-- and a number past a byte's end is no holder, whichever it is
+capped_held : (m : Meaning) (slot h : ℕ) → held m slot (min h 255) ≡ held m slot h
+capped_held m slot h = elim (cases_lt h 136) [
+  | inl l ↦ let same : min h 255 ≡ h = omega arith in ap (held m slot) same
+  | inr l ↦ nobody (min h 255) (omega arith) ∙ sym (nobody h l)
+]
+  where
+    nobody : (i : ℕ) → 136 ≤ i → held m slot i ≡ false
+    nobody i l = and_left _ (m.sets slot i) (and_right (is_slot slot) (is_holder i) (le-ltb i 136 l))
 
-pub places_same : (n w : ℕ) → member w n ≡ false → places_below (n + 1) w ≡ places_below n w
-unfolding places_below those_below
-places_same n w h =
-    ap (λ m. places_below m w) (add-one n) ∙ ap (λ b. map (λ p. 72 + p) (those_below n (member w) ++ cond b (n ∷ []) [])) h ∙ ap (map (λ p. 72 + p)) (append-nil (those_below n (member w)))
+pub some_held : (m : Meaning) (slot : ℕ) (hs : List ℕ) → list_any (held m slot) (capped hs) ≡ some_in hs (held m slot)
+some_held m slot [] = refl
+some_held m slot (h ∷ hs) = (λ d. capped_held m slot h d || some_held m slot hs d)
 
-pub places_none : (w : ℕ) → places_below 0 w ≡ []
-unfolding places_below those_below
-places_none w = refl
-
--- whether one of the places is in a set, one place at a time
-or_false : (b : Bool) → (b || false) ≡ b
-or_false true = refl
-or_false false = refl
-
-some_in_push : (hs : List ℕ) (h : ℕ) (s : Set) → s h ≡ false → some_in (hs ++ h ∷ []) s ≡ some_in hs s
-some_in_push [] h s none = or_false (s h) ∙ none
-some_in_push (k ∷ ks) h s none = ap (λ b. s k || b) (some_in_push ks h s none)
-
-some_in_has : (hs : List ℕ) (s : Set) (a : ℕ) → has hs a ≡ true → s a ≡ true → some_in hs s ≡ true
-some_in_has [] s a h q = absurd (false≢true h)
-some_in_has (k ∷ ks) s a h q =
-    elim (or_cases (eqb k a) (has ks a) h) [
-      | inl r ↦ or_left (s k) _ (ap s (eqb-true k a r) ∙ q)
-      | inr r ↦ or_right (s k) _ (some_in_has ks s a r q)
-    ]
-
-module _ (n w : ℕ) (s : Set) where
-  pub none_more : member w n ≡ true → s (72 + n) ≡ false → some_in (places_below n w) s ≡ false → some_in (places_below (n + 1) w) s ≡ false
-  none_more h none so_far = ap (λ hs. some_in hs s) (places_more n w h) ∙ some_in_push (places_below n w) (72 + n) s none ∙ so_far
-
-  pub none_same : member w n ≡ false → some_in (places_below n w) s ≡ false → some_in (places_below (n + 1) w) s ≡ false
-  none_same h so_far = ap (λ hs. some_in hs s) (places_same n w h) ∙ so_far
-
-  pub one_found : n < 64 → member w n ≡ true → s (72 + n) ≡ true → some_in (places_below 64 w) s ≡ true
-  unfolding places_below
-  one_found l h q = some_in_has (places_below 64 w) s (72 + n) (has_shifted 72 (those_below 64 (member w)) n (has_those_below 64 (member w) n l h)) q
+-- so it is the slot's own set of which an event in bounds asks
+pub some_in_range : (m : Meaning) (slot : ℕ) (hs : List ℕ) → slot < 576 → AllHolders hs → some_in hs (held m slot) ≡ some_in hs (m.sets slot)
+some_in_range m slot [] l small = refl
+some_in_range m slot (h ∷ hs) l small = (λ d. held_in_range m slot h l small.0 d || some_in_range m slot hs l small.1 d)

@@ -62,7 +62,7 @@ taken_holders (WriteFlag f) l = tt
 taken_holders (Fork u) l = tt
 taken_holders (Join u) l = (omega arith, tt)
 taken_holders (Allocate o) l = tt
-taken_holders (Commit r w) l = holders_small 64 r.word w.word (omega arith)
+taken_holders (Commit r w) l = holders_small r.word w.word
 
 pub given_holders : (a : Action) → Ranged a → AllHolders (given a)
 given_holders (Read p) l = tt
@@ -74,7 +74,7 @@ given_holders (WriteFlag f) l = (omega arith, tt)
 given_holders (Fork u) l = (omega arith, tt)
 given_holders (Join u) l = tt
 given_holders (Allocate o) l = tt
-given_holders (Commit r w) l = holders_small 64 r.word w.word (omega arith)
+given_holders (Commit r w) l = holders_small r.word w.word
 
 -- an event that no rule refuses is in bounds
 pub in_bounds : (rec : List Event) (e : Event) → NoFault rec e → InBounds e

@@ -3,13 +3,13 @@
 --   made cs m     the meaning after a list of calls, in that order
 --   Made          a live keeper is left live, and the calls have been made on it
 --   passes_in t hs, passes_out t hs   a pass from each of hs to t, or to each of hs from t
---   committed_at p t r w   the accesses of place p in a commit of thread t with the sets r and w
 --   set_at m p k  the set of slot k of place p
-use Rattle.std.specs.Prelude.{◌≡◌, ℕ, ◌+◌, ◌*◌, cond, List, [], ◌∷◌, map}
-use Rattle.keepers.specs.Meaning.{Meaning, begun, forgotten, passed}
+--   held m s h    holder h is in the set of slot s, and neither is out of range
+--   held_at m p k  that set of slot k of place p
+use Rattle.std.specs.Prelude.{◌≡◌, ℕ, ◌+◌, ◌*◌, ◌&&◌, List, [], ◌∷◌, map}
+use Rattle.keepers.specs.Meaning.{Meaning, is_slot, is_holder, begun, forgotten, passed}
 use Rattle.order.specs.Slots.{Set}
-use Rattle.events.specs.Places.{member}
-use Rattle.order.specs.Work.{Call, begin, forget, pass, written, looked_at}
+use Rattle.order.specs.Work.{Call, begin, forget, pass}
 
 abbrev pub called : Call → Meaning → Meaning
 called (begin s t) m = begun m s t
@@ -26,11 +26,14 @@ Made live meaning cs k k' = live k → live k' × (meaning k' ≡ made cs (meani
 abbrev pub set_at : Meaning → ℕ → ℕ → Set
 set_at m p k = m.sets (9 * p + k)
 
+abbrev pub held : Meaning → ℕ → Set
+held m s h = is_slot s && is_holder h && m.sets s h
+
+abbrev pub held_at : Meaning → ℕ → ℕ → Set
+held_at m p k = held m (9 * p + k)
+
 abbrev pub passes_in : ℕ → List ℕ → List Call
 passes_in t hs = map (λ h. pass h t) hs
 
 abbrev pub passes_out : ℕ → List ℕ → List Call
 passes_out t hs = map (λ h. pass t h) hs
-
-abbrev pub committed_at : ℕ → ℕ → ℕ → ℕ → List Call
-committed_at p t r w = cond (member w p) (written t p) (cond (member r p) (looked_at t p) [])

@@ -1,21 +1,15 @@
--- The holders that partners stand for. Assumes nothing.
---   places_below n w   the holders of the places below n in the set w, ascending
---   listed ps          the holders of ps, ascending
+-- The holders with whom an event shares. Assumes nothing.
+--   holders_left i     the holders that an iterator over them has still to give
 --   AllHolders hs      every one of hs is the number of a holder
 --   capped hs          hs with every number past a byte's end put down to 255, which is no holder either
-use Rattle.std.specs.Prelude.{ℕ, ◌+◌, ◌<◌, min, List, [], ◌∷◌, map}
+use Rattle.std.specs.Prelude.{ℕ, ◌+◌, ◌<◌, min, List, ◌++◌, map}
 use Rattle.std.specs.List.{AllByRecursion}
-use Rattle.events.specs.Places.{member, those_below}
-use Rattle.slots.specs.declared.partners.Partners.{Partners}
-use Rattle.slots.specs.declared.partners.Partners.TheVariants.{Nobody, One, Places}
+use Rattle.std.specs.Option.{option_to_list}
+use Rattle.events.specs.Places.{places_left}
+use Rattle.slots.specs.declared.partners.Holders.{Holders}
 
-unfoldable pub places_below : ℕ → ℕ → List ℕ
-places_below n w = map (λ p. 72 + p) (those_below n (member w))
-
-abbrev pub listed : Partners → List ℕ
-listed Nobody = []
-listed (One h) = h ∷ []
-listed (Places w) = places_below 64 w.word
+abbrev pub holders_left : Holders → List ℕ
+holders_left i = option_to_list i.one ++ map (λ p. 72 + p) (places_left i.places)
 
 abbrev pub capped : List ℕ → List ℕ
 capped hs = map (λ h. min h 255) hs

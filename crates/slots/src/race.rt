@@ -1,18 +1,20 @@
 // The search for a race: the lowest place at which an event meets an access that has not reached it.
-ghost use Rattle.std.specs.Prelude.{◌≡◌, ◌<◌};
+ghost use Rattle.std.specs.Prelude.{◌≡◌, ℕ, false};
+ghost use Rattle.events.specs.Places.{member};
+ghost use Rattle.order.specs.Acts.{touches};
+ghost use Rattle.order.specs.Cells.{arrived, cell_read, cell_witness, cell_race};
+ghost use Rattle.order.specs.Cells.{pending as pending_in};
 ghost use Rattle.order.specs.Judgement.{found};
 ghost use Rattle.order.specs.Searches.{or_else};
-ghost use Rattle.order.specs.Cells.{cell_read, cell_witness, cell_race};
-ghost use Rattle.order.specs.Cells.{pending as pending_in};
 ghost use Rattle.slots.specs.Bounds.{InBounds};
-ghost use Rattle.slots.specs.Made.{set_at};
+ghost use Rattle.slots.specs.Made.{set_at, held, held_at};
 ghost use Rattle.slots.specs.Serials.{number_at, serial_at};
 ghost use Rattle.slots.specs.Told.{found_as};
 
 use crate::acts::{reads_place, writes_place};
-use crate::asking::reached;
+use crate::partners::Holders;
 use crate::table::Slots;
-use events::{Action, Event};
+use events::{Action, Event, PlaceSet};
 use keepers::Keeper;
 
 // The lowest place at which an event races, and the serial of what it races with there.
@@ -26,89 +28,75 @@ impl<K: Keeper> Slots<K> {
     // The race that the event would make, if any. A read or a write has one place, a commit those
     // of its sets, any other event none.
     pub fn race(&self, event: Event) -> Option<Racing>
-        ensures { K.live self.now.keeper → InBounds event → found_as result ≡ cell_race event (serial_at self.now.serials) (set_at (K.meaning self.now.keeper)) }
+        ensures { InBounds event → found_as result ≡ cell_race event (serial_at self.now.serials) (set_at (K.meaning self.now.keeper)) }
     {
+        let search = Search { slots: self, event };
         match event.action {
-            Action::Read { place } => self.race_at(place, event),
-            Action::Write { place } => self.race_at(place, event),
-            Action::Commit {
-                reads: _,
-                writes: _,
-            } => self.lowest_race(event),
+            Action::Read { place } | Action::Write { place } => search.race_at(place),
+            Action::Commit { reads, writes } => search.lowest_race(reads.union(writes)),
             _ => None,
         }
     }
+}
 
-    // The race at the lowest place that has one.
-    fn lowest_race(&self, event: Event) -> Option<Racing>
-        ensures { K.live self.now.keeper → InBounds event → found_as result ≡ cell_race event (serial_at self.now.serials) (set_at (K.meaning self.now.keeper)) }
+// The search for what an event races with.
+#[derive_where(Clone, Copy)]
+struct Search<'a, K: Keeper> {
+    slots: &'a Slots<K>,
+    event: Event,
+}
+
+impl<K: Keeper> Search<'_, K> {
+    // The race at the lowest of the places that has one, where the event touches no other.
+    fn lowest_race(&self, places: PlaceSet) -> Option<Racing>
+        ensures { ((p : ℕ) → member places.word p ≡ false → touches self.now.event p ≡ false) → found_as result ≡ cell_race self.now.event (serial_at self.now.slots.now.serials) (held_at (K.meaning self.now.slots.now.keeper)) }
     {
-        for place in 0..64u8 {
-            if let Some(racing) = self.race_at(place, event) {
-                return Some(racing);
-            }
-        }
-        None
+        places.iter().find_map(|place| self.race_at(place))
     }
 
     // The race at the place.
-    fn race_at(&self, place: u8, event: Event) -> Option<Racing>
-        ensures { K.live self.now.keeper → InBounds event → place < 64 → found_as result ≡ found place (cell_witness event place (serial_at self.now.serials place) (set_at (K.meaning self.now.keeper) place)) }
+    fn race_at(&self, place: u8) -> Option<Racing>
+        ensures { found_as result ≡ found place (cell_witness self.now.event place (serial_at self.now.slots.now.serials place) (held_at (K.meaning self.now.slots.now.keeper) place)) }
     {
-        match self.witness(place, event) {
-            Some(witness) => Some(Racing { place, witness }),
-            None => None,
-        }
+        let witness = self.witness(place)?;
+        Some(Racing { place, witness })
     }
 
     // The serial of what the event races with at the place. A place that it does not access has none.
-    fn witness(&self, place: u8, event: Event) -> Option<u32>
-        ensures { K.live self.now.keeper → InBounds event → place < 64 → result ≡ cell_witness event place (serial_at self.now.serials place) (set_at (K.meaning self.now.keeper) place) }
+    fn witness(&self, place: u8) -> Option<u32>
+        ensures { result ≡ cell_witness self.now.event place (serial_at self.now.slots.now.serials place) (held_at (K.meaning self.now.slots.now.keeper) place) }
     {
-        if writes_place(event, place) {
-            self.pending_any(place, event)
-        } else if reads_place(event, place) {
-            self.pending(9 * place as usize, event)
+        if writes_place(self.event, place) {
+            self.pending_any(place)
+        } else if reads_place(self.event, place) {
+            self.pending(9 * place as usize)
         } else {
             None
         }
     }
 
     // What a write races with: the place's write, if that has not reached the event, otherwise the
-    // read by the lowest thread that has not.
-    fn pending_any(&self, place: u8, event: Event) -> Option<u32>
-        ensures { K.live self.now.keeper → InBounds event → place < 64 → result ≡ or_else (pending_in event (serial_at self.now.serials place 0) (set_at (K.meaning self.now.keeper) place 0)) (cell_read event (serial_at self.now.serials place) (set_at (K.meaning self.now.keeper) place)) }
+    // read by the lowest thread that has not. The slots are in that order.
+    fn pending_any(&self, place: u8) -> Option<u32>
+        ensures { result ≡ or_else (pending_in self.now.event (serial_at self.now.slots.now.serials place 0) (held_at (K.meaning self.now.slots.now.keeper) place 0)) (cell_read self.now.event (serial_at self.now.slots.now.serials place) (held_at (K.meaning self.now.slots.now.keeper) place)) }
     {
-        match self.pending(9 * place as usize, event) {
-            Some(serial) => Some(serial),
-            None => self.pending_read(place, event),
-        }
-    }
-
-    // The serial of the read of the place by the lowest thread that has not reached the event.
-    fn pending_read(&self, place: u8, event: Event) -> Option<u32>
-        ensures { K.live self.now.keeper → InBounds event → place < 64 → result ≡ cell_read event (serial_at self.now.serials place) (set_at (K.meaning self.now.keeper) place) }
-    {
-        for thread in 0..8u8 {
-            let slot = 9 * place as usize + (thread as usize + 1);
-            if let Some(serial) = self.pending(slot, event) {
-                return Some(serial);
-            }
-        }
-        None
+        let first = 9 * place as usize;
+        (first..first + 9).find_map(|slot| self.pending(slot))
     }
 
     // The serial of the slot's access, unless there is none or it has reached the event.
-    fn pending(&self, slot: usize, event: Event) -> Option<u32>
-        ensures { K.live self.now.keeper → InBounds event → slot < 576 → result ≡ pending_in event (number_at self.now.serials slot) ((K.meaning self.now.keeper).sets slot) }
+    fn pending(&self, slot: usize) -> Option<u32>
+        ensures { result ≡ pending_in self.now.event (number_at self.now.slots.now.serials slot) (held (K.meaning self.now.slots.now.keeper) slot) }
     {
-        let serial = self.serials.at(slot);
-        if serial == 0 {
-            return None;
-        }
-        if reached(&self.keeper, slot, event) {
-            return None;
-        }
-        Some(serial)
+        let serial = self.slots.serials.at(slot)?;
+        (!self.reached(slot)).then_some(serial)
+    }
+
+    // Whether the thread of the event, or one from whom the event takes, is in the slot's set.
+    fn reached(&self, slot: usize) -> bool
+        ensures { result ≡ arrived self.now.event (held (K.meaning self.now.slots.now.keeper) slot) }
+    {
+        self.slots.holds(slot, self.event.thread)
+            || Holders::takes_from(self.event.action).any(|holder| self.slots.holds(slot, holder))
     }
 }

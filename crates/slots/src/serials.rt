@@ -1,12 +1,13 @@
-// The serial of each slot's access, 0 where the slot is empty.
+// The serial of each slot's access.
 ghost use Rattle.std.specs.Prelude.{◌≡◌, ℕ, ◌&&◌, if◌then◌else◌, ◌==◌};
 ghost use Rattle.keepers.specs.Meaning.{is_slot};
-ghost use Rattle.slots.specs.Serials.{number_at};
+ghost use Rattle.slots.specs.Serials.{number_at, some_serial};
 
 use keepers::SLOTS;
 
 #[derive(Drop)]
 pub struct Serials {
+    // 0 where the slot is empty: a row of `Option`s would take twice the memory
     numbers: [u32; SLOTS],
 }
 
@@ -20,11 +21,12 @@ impl Serials {
         }
     }
 
-    // The slot's serial; a slot out of range is empty.
-    pub(crate) fn at(&self, slot: usize) -> u32
-        ensures { result ≡ number_at self.now slot }
+    // The serial of the slot's access; a slot that is empty or out of range has none.
+    pub(crate) fn at(&self, slot: usize) -> Option<u32>
+        ensures { result ≡ some_serial (number_at self.now slot) }
     {
-        if slot < SLOTS { self.numbers[slot] } else { 0 }
+        let serial = *self.numbers.get(slot)?;
+        (serial != 0).then_some(serial)
     }
 
     // Writes the slot's serial, if the slot is in range.

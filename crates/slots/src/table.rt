@@ -1,20 +1,21 @@
 // The slots over a keeper.
-ghost use Rattle.std.specs.Prelude.{◌≡◌, ℕ, ◌&&◌, ltb, if◌then◌else◌, None, nat_lt};
+ghost use Rattle.std.specs.Prelude.{◌≡◌, ℕ, ◌&&◌, if◌then◌else◌, None, nat_lt};
 ghost use Rattle.keepers.specs.Meaning.{cleared};
 ghost use Rattle.order.specs.Questions.{cell_told};
 ghost use Rattle.slots.specs.Made.{set_at};
 ghost use Rattle.slots.specs.Serials.{serial_at};
 ghost use Rattle.slots.specs.Told.{told_as};
 
-use crate::asking::holds;
 use crate::serials::Serials;
-use keepers::Keeper;
+use keepers::{Keeper, THREADS};
 
 // The keeper has the set of each slot, the table the serial of its access.
 #[derive(Drop)]
-pub struct Slots<K> {
+pub struct Slots<K: Keeper> {
     pub(crate) keeper: K,
     pub(crate) serials: Serials,
+    // the keeper has been cleared
+    ghost lives: { ∥ K.live keeper ∥₁ },
 }
 
 // What is told of a slot that is not empty.
@@ -28,12 +29,11 @@ pub struct Told {
 
 impl<K: Keeper> Slots<K> {
     // Clears the keeper; every slot is empty.
-    pub fn start(keeper: K) -> Slots<K>
+    pub fn start(mut keeper: K) -> Slots<K>
         ensures lives { K.live result.keeper }
         ensures keeper { K.meaning result.keeper ≡ cleared }
         ensures serials { (p k : ℕ) → serial_at result.serials p k ≡ 0 }
     {
-        let mut keeper = keeper;
         keeper.clear();
         Slots {
             keeper,
@@ -48,20 +48,18 @@ impl<K: Keeper> Slots<K> {
         let Slots { keeper, serials: _ } = self;
         keeper
     }
+
     // What is told of slot k of a place: 0 for its write, t + 1 for thread t's read; and whether
     // that access has reached the thread. Nothing is told of what is out of range.
     pub fn tell(&self, place: u8, slot: u8, thread: u8) -> Option<Told>
-        ensures { K.live self.now.keeper → told_as result ≡ (if ltb place 64 && (nat_lt slot 9 && nat_lt thread 8) then cell_told (serial_at self.now.serials place slot) (set_at (K.meaning self.now.keeper) place slot) thread else None) }
+        ensures { told_as result ≡ (if nat_lt place 64 && (nat_lt slot 9 && nat_lt thread 8) then cell_told (serial_at self.now.serials place slot) (set_at (K.meaning self.now.keeper) place slot) thread else None) }
     {
-        if place >= 64 || slot >= 9 || thread >= 8 {
+        if place >= 64 || slot >= 9 || thread >= THREADS {
             return None;
         }
         let at = 9 * place as usize + slot as usize;
-        let serial = self.serials.at(at);
-        if serial == 0 {
-            return None;
-        }
-        let reached = holds(&self.keeper, at, thread);
+        let serial = self.serials.at(at)?;
+        let reached = self.holds(at, thread);
         Some(Told { serial, reached })
     }
 }

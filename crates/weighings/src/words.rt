@@ -2,7 +2,6 @@
 use crate::steps::Step;
 use events::PlaceSet;
 use monitor::{Access, Question, Reply, Verdict};
-use roster::RuleFault;
 use slots::Told;
 use std::fmt;
 
@@ -68,27 +67,6 @@ impl fmt::Display for Step {
     }
 }
 
-#[derive(Drop)]
-struct Refused(RuleFault);
-
-impl fmt::Display for Refused {
-    fn fmt<W: fmt::Write>(&self, f: &mut fmt::Formatter<W>) -> fmt::Result {
-        let number = self.0.number();
-        let meaning = match self.0 {
-            RuleFault::NoSuchThread => "there is no such thread",
-            RuleFault::NoSuchThing => "there is no such place, lock, flag or object",
-            RuleFault::NotRunning => "the thread is not running",
-            RuleFault::ForkedBefore => "the thread was forked before",
-            RuleFault::JoinsAmiss => "a thread joins itself or one that was not forked",
-            RuleFault::LockHeld => "the lock is held",
-            RuleFault::LockNotHeld => "the thread does not hold the lock",
-            RuleFault::JoinedHolds => "the joined thread holds a lock",
-            RuleFault::RecordFull => "the record is full",
-        };
-        write!(f, "refused with {number}, {meaning}")
-    }
-}
-
 // The answer to a call.
 #[derive(Drop)]
 pub(crate) struct Answer(pub(crate) Reply);
@@ -101,7 +79,7 @@ impl fmt::Display for Answer {
                 write!(f, "declined, a race at place {place} with event {witness}")
             }
             Reply::Judged(Verdict::Refused { fault }) | Reply::Shown(Err(fault)) => {
-                write!(f, "{}", Refused(fault))
+                write!(f, "refused with {}, {fault}", fault.number())
             }
             Reply::Counted(count) => write!(f, "{count}"),
             Reply::Shown(Ok(None)) => write!(f, "there is none"),

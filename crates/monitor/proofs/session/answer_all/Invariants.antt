@@ -5,7 +5,7 @@ use Rattle.monitor.proofs.session.answer_all.Given as goal
 -- the calls that are not left are answered, and there is room for the other answers
 abbrev pub invariant-loop-call : goal.invariant-loop-call
 invariant-loop-call g l =
-    Sofar g.K.Keeper.live g.K.Keeper.meaning (deque_items l.initial.calls) (deque_items l.calls) (vec_items l.replies) l.monitor
+    Sofar (deque_items l.initial.calls) (deque_items l.calls) (vec_items l.replies) l.monitor
     × (vec_len l.replies + deque_len l.calls ≤ vec_capacity l.replies)
 
 abbrev pub decreases-loop-call : goal.decreases-loop-call

@@ -5,4 +5,4 @@ use Rattle.monitor.proofs.monitor.Monitor.start.Goals as goal
 pub returns : goal.returns
 returns g c =
     let slots = c.start.ensures in
-    stands_none g.K.Keeper.live g.K.Keeper.meaning _ refl c.new.ensures slots.lives slots.keeper slots.serials
+    stands_none _ refl c.new.ensures slots.lives slots.keeper slots.serials

@@ -24,9 +24,9 @@ returns-in-Write g c = record {
 pub returns-in-Allocate : goal.returns-in-Allocate
 returns-in-Allocate g c = record {
   keeper = λ live.
-      let after = c.forget_object.ensures.keeper live in
+      let after = c.forget.ensures.keeper live in
       (after.0, after.1 ∙ ap (λ a. made (accesses c.args.event.thread a) (g.K.Keeper.meaning c.args.self.now.keeper)) (sym c.in-Allocate.is));
-  serials = λ p k a b. c.forget_object.ensures.serials (9 * p + k) (omega arith) ∙ allocate_ruled c.args.event p k c.args.serial (serial_at c.args.self.now.serials p k) c.in-Allocate.object c.in-Allocate.is b;
+  serials = λ p k a b. c.forget.ensures.serials (9 * p + k) (omega arith) ∙ allocate_ruled c.args.event p k c.args.serial (serial_at c.args.self.now.serials p k) c.in-Allocate.object c.in-Allocate.is b;
 }
 
 pub returns-in-Commit : goal.returns-in-Commit

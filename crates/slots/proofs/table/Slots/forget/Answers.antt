@@ -1,4 +1,5 @@
 use Rattle.std.proofs.Common.{◌≡◌, ◌+◌, ◌-◌, cond, ◌&&◌, ltb, leb, sym, ap, ◌∙◌, arith}
+use Rattle.std.proofs.Math.Logic.{∥∥₁_map}
 use Rattle.order.specs.Work.{forget_from}
 use Rattle.slots.specs.Made.{made}
 use Rattle.slots.specs.Serials.{number_at}
@@ -34,3 +35,6 @@ returns g c =
       keeper = λ live. let inv = c.loop-slot.invariant.0 live in (inv.0, sym (forget_ends end i (g.K.Keeper.meaning c.loop-slot.self.keeper) c.loop-slot-test.false) ∙ inv.1);
       serials = λ s range. c.loop-slot.invariant.1 s range ∙ ap (λ n. cond (leb c.args.first s && ltb s n) 0 (number_at c.args.self.now.serials s)) all;
     }
+
+pub invariant_of-self : goal.invariant_of-self
+invariant_of-self g c = record { lives = ∥∥₁_map c.loop-slot.self.lives c.forget.ensures.lives }

@@ -1,23 +1,22 @@
 use Rattle.std.proofs.Common.{◌+◌, ◌*◌, sym, ◌∙◌, arith}
+use Rattle.std.proofs.Math.Logic.{∥∥₁_map}
 use Rattle.keepers.proofs.Laws.{begun_same}
 use Rattle.slots.specs.Serials.{serial_at}
 use Rattle.slots.proofs.Accesses.{read_at, read_past}
 use Rattle.slots.proofs.table.Slots.read.Goals as goal
 
-pub returns-then-thread-lt-THREADS : goal.returns-then-thread-lt-THREADS
-returns-then-thread-lt-THREADS g c =
+pub returns-then-step-ge-THREADS : goal.returns-then-step-ge-THREADS
+returns-then-step-ge-THREADS g c =
     let q = c.args.place in
-    let u = c.args.thread in
-    record {
-      keeper = c.begin_read.ensures.keeper;
-      serials = λ p k a b. c.begin_read.ensures.serials (9 * p + k) ∙ read_at q u c.args.serial p k (serial_at c.args.self.now.serials p k) (omega arith) a b;
-    }
-
-pub returns-else-thread-lt-THREADS : goal.returns-else-thread-lt-THREADS
-returns-else-thread-lt-THREADS g c =
-    let q = c.args.place in
-    let u = c.args.thread in
+    let u = c.args.step.thread in
     record {
       keeper = λ live. (live, sym (begun_same (g.K.Keeper.meaning c.args.self.now.keeper) (9 * q + (u + 1)) u (λ _ l. omega arith)));
-      serials = λ p k a b. sym (read_past q u c.args.serial p k (serial_at c.args.self.now.serials p k) (omega arith) b);
+      serials = λ p k a b. sym (read_past q u c.args.step.serial p k (serial_at c.args.self.now.serials p k) (omega arith) b);
     }
+
+pub invariant_of-self : goal.invariant_of-self
+invariant_of-self g c = record { lives = ∥∥₁_map c.args.self.now.lives c.begin.ensures.lives }
+
+pub returns-clause-serials : goal.returns-clause-serials
+returns-clause-serials g c p k a b =
+    c.put.ensures (9 * p + k) ∙ read_at c.args.place c.args.step.thread c.args.step.serial p k (serial_at c.args.self.now.serials p k) (omega arith) a b
