@@ -14,7 +14,7 @@ use Rattle.certificate.specs.declared.finding.Finding.{Finding}
 use Rattle.certificate.specs.Running.{listed, Passes, Halts, Outcome, StopsAs, Runs}
 use Rattle.std.specs.declared.alloc.AllocError.{AllocError}
 use Rattle.std.specs.declared.alloc.Global.{Global}
-use Rattle.keepers.specs.Meaning.{Meaning}
+use Rattle.keepers.specs.declared.keeper.Keeper.{Ghosts}
 use Rattle.monitor.specs.declared.monitor.Monitor.{Monitor}
 use Rattle.monitor.specs.Stands.{Stands}
 use Rattle.certificate.specs.Sentence.{Certified}
@@ -66,12 +66,12 @@ agree bytes t t' c d =
     c.is ∙ ap (λ o. text (length o.recorded_as) o.findings o.end) (one_outcome bytes outside [] [] c.events d.events c.outcome d.outcome c.runs d.runs) ∙ sym d.is
 
 -- the text that is made of what a run leaves
-pub certifies : {K : Type 0} (live : K → Type 0) (meaning : K → Meaning) (bytes : List ℕ) (q : Place) (m : Monitor K) (fs : List Finding) (end : Option Fault) (n : ℕ) → Certified live meaning bytes outside [] q m fs end → ((rec : List Event) → Stands live meaning rec m → n ≡ length rec) → (r : Result (String Global) AllocError) → IfOk r (λ t. string_bytes t ≡ text n fs end) → IfOk r (λ t. Certifies bytes (string_bytes t))
-certifies live meaning bytes q m fs end n run counts (Ok t) is = record {
+pub certifies : {K : Type 0} {its : Ghosts K} (bytes : List ℕ) (q : Place) (m : Monitor K its) (fs : List Finding) (end : Option Fault) (n : ℕ) → Certified bytes outside [] q m fs end → ((rec : List Event) → Stands rec m → n ≡ length rec) → (r : Result (String Global) AllocError) → IfOk r (λ t. string_bytes t ≡ text n fs end) → IfOk r (λ t. Certifies bytes (string_bytes t))
+certifies bytes q m fs end n run counts (Ok t) is = record {
   events = run.came.events;
   outcome = record { recorded_as = run.came.rec'; findings = fs; end = end; place = q };
   runs = run.came.runs;
   says = run.says;
   is = is ∙ ap (λ k. text k fs end) (counts run.came.rec' run.came.stands);
 }
-certifies live meaning bytes q m fs end n run counts (Err e) is = tt
+certifies bytes q m fs end n run counts (Err e) is = tt

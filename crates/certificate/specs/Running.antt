@@ -7,7 +7,7 @@
 --                          the run comes to the outcome o
 use Rattle.std.specs.Prelude.{◌≡◌, ℕ, ◌<◌, ◌≤◌, List, [], ◌∷◌, ◌++◌, length, Some, None, Ok, Err, Option, Result}
 use Rattle.events.specs.declared.Event.{Event}
-use Rattle.keepers.specs.Meaning.{Meaning}
+use Rattle.keepers.specs.declared.keeper.Keeper.{Ghosts}
 use Rattle.order.specs.Judgement.{Answer, accepted, refused, declined, judge, recorded}
 use Rattle.roster.specs.declared.fault.RuleFault.{RuleFault}
 use Rattle.roster.specs.Numbers.{fault_number}
@@ -87,18 +87,18 @@ abbrev pub PutAt : List Finding → Site → Answer → Result (Unit {0}) Fault 
 PutAt fs at a (Ok x) fs' = Passes fs a × (fs' ≡ listed fs at.event a)
 PutAt fs at a (Err f) fs' = Halts fs a f.cause × (f.at ≡ at) × (fs' ≡ fs)
 
-module _ {K : Type 0} (live : K → Type 0) (meaning : K → Meaning) where
-  unfoldable pub Took : Run K → Event → Site → Result (Unit {0}) Fault → Run K → Type 0
+module _ {K : Type 0} {its : Ghosts K} where
+  unfoldable pub Took : Run K its → Event → Site → Result (Unit {0}) Fault → Run K its → Type 0
   Took s e at r t =
-      (rec : List Event) → Stands live meaning rec s.monitor → PutAt s.findings at (judge rec e) r t.findings × Stands live meaning (recorded rec e (judge rec e)) t.monitor
+      (rec : List Event) → Stands rec s.monitor → PutAt s.findings at (judge rec e) r t.findings × Stands (recorded rec e (judge rec e)) t.monitor
 
   -- the run comes to this outcome, and the monitor stands for the record after it
-  pub record CameTo (bytes : List ℕ) (p : Place) (rec : List Event) (fs : List Finding) (q : Place) (m : Monitor K) (fs' : List Finding) (end : Option Fault) : Type 0 where
+  pub record CameTo (bytes : List ℕ) (p : Place) (rec : List Event) (fs : List Finding) (q : Place) (m : Monitor K its) (fs' : List Finding) (end : Option Fault) : Type 0 where
     pub events : List Event
     pub rec' : List Event
     pub runs : Runs bytes p rec fs events (record { recorded_as = rec'; findings = fs'; end = end; place = q })
-    pub stands : Stands live meaning rec' m
+    pub stands : Stands rec' m
 
-  unfoldable pub RunOn : List ℕ → Place → Run K → Place → Run K → Option Fault → Type 0
+  unfoldable pub RunOn : List ℕ → Place → Run K its → Place → Run K its → Option Fault → Type 0
   RunOn bytes p s q t end =
-      (rec : List Event) → Stands live meaning rec s.monitor → CameTo bytes p rec s.findings q t.monitor t.findings end
+      (rec : List Event) → Stands rec s.monitor → CameTo bytes p rec s.findings q t.monitor t.findings end

@@ -19,7 +19,7 @@ use trace::{Reader, Site, Taker};
 impl<K: Keeper> Run<K> {
     // Offers the file's event of that number; a decline becomes a finding.
     fn put(&mut self, event: Event, number: usize) -> Result<(), Cause>
-        ensures { (rec : List AnEvent) → Stands K.live K.meaning rec self.old.monitor → Put self.old.findings number (judge rec event) result self.new.findings × Stands K.live K.meaning (recorded rec event (judge rec event)) self.new.monitor }
+        ensures { (rec : List AnEvent) → Stands rec self.old.monitor → Put self.old.findings number (judge rec event) result self.new.findings × Stands (recorded rec event (judge rec event)) self.new.monitor }
     {
         match self.monitor.offer(event) {
             Verdict::Accepted { .. } => Ok(()),
@@ -37,7 +37,7 @@ impl<K: Keeper> Run<K> {
 }
 
 impl<K: Keeper> Taker<Fault> for Run<K> {
-    ghost took = { λ s e at r t. Took K.live K.meaning s e at r t };
+    ghost took = { λ s e at r t. Took s e at r t };
 
     #[tactic(auto, unfolding(crate::specs::Running::Took))]
     fn take(&mut self, event: Event, at: Site) -> Result<(), Fault> {
@@ -48,7 +48,7 @@ impl<K: Keeper> Taker<Fault> for Run<K> {
 
 // Offers all that is left of the file, up to a fault.
 fn hand_all<K: Keeper>(reader: &mut Reader<'_>, run: &mut Run<K>) -> Result<(), Fault>
-    ensures run { RunOn K.live K.meaning reader.old.bytes.now reader.old.at run.old reader.new.at run.new (result_err result) }
+    ensures run { RunOn reader.old.bytes.now reader.old.at run.old reader.new.at run.new (result_err result) }
     ensures bytes { reader.new.bytes.now ≡ reader.old.bytes.now }
 {
     while reader.hand(run)? {}
@@ -62,7 +62,7 @@ pub fn run_file<K: Keeper>(
     reader: &mut Reader<'_>,
     monitor: Monitor<K>,
 ) -> Result<Ran<K>, AllocFailed<Monitor<K>>>
-    ensures run { RanWhole K.live K.meaning reader.old.bytes.now reader.old.at monitor reader.new.at result }
+    ensures run { RanWhole reader.old.bytes.now reader.old.at monitor reader.new.at result }
     ensures bytes { reader.new.bytes.now ≡ reader.old.bytes.now }
 {
     let Ok(findings) = Findings::new(heap) else {

@@ -7,7 +7,6 @@ use crate::finding::Finding;
 use std::alloc::{AllocError, Global};
 use std::error::Error;
 use std::fmt;
-use trace::Site;
 
 // What a certificate tells: how many events are accepted, the findings, and the fault that ended the run, if one did.
 #[derive(Clone, Copy, Debug)]
@@ -33,16 +32,7 @@ impl fmt::Display for Fault {
     ghost output = { λ f. Some (fault_text f) };
 
     fn fmt<W: fmt::Write>(&self, f: &mut fmt::Formatter<W>) -> fmt::Result {
-        let Site {
-            section,
-            event,
-            byte,
-        } = self.at;
-        write!(
-            f,
-            "refused {} section {section} event {event} byte {byte}",
-            self.cause.number()
-        )
+        write!(f, "refused {} {}", self.cause.number(), self.at)
     }
 }
 

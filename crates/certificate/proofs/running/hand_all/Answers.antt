@@ -7,7 +7,7 @@ use Rattle.certificate.proofs.Onward.{went, none_left, failed, sofar_none, sofar
 use Rattle.certificate.proofs.running.hand_all.Goals as goal
 
 pub loop-init : goal.loop-init
-loop-init g c = (refl, λ rec stands. sofar_none _ _ _ _ rec _ stands)
+loop-init g c = (refl, λ rec stands. sofar_none _ _ rec _ stands)
 
 pub returns-in_err-hand : goal.returns-in_err-hand
 unfolding RunOn
@@ -22,7 +22,7 @@ returns-in_err-hand g c =
     record {
       run = λ rec stands.
           let sofar = inv.1 rec stands in
-          rw told (sofar_stops _ _ sofar t q' (Some y) (failed _ _ _ _ _ _ t q' sofar.rec' sofar.stands y _ handed));
+          rw told (sofar_stops sofar t q' (Some y) (failed _ _ _ _ t q' sofar.rec' sofar.stands y _ handed));
       bytes = c.hand.ensures.bytes ∙ inv.0;
     }
 
@@ -32,7 +32,7 @@ loop-smaller g c =
     let q' = c.hand.new.self.at in
     let bs = c.args.reader.now.bytes.now in
     let handed = rw (inv.0, c.in_ok-hand.was, c.if-branch.true) at c.hand.ensures.handed in
-    let step = went _ _ _ _ _ _ c.hand.new.taker q' _ handed in
+    let step = went _ _ _ _ c.hand.new.taker q' _ handed in
     let on = ahead bs c.loop.reader.at step.0 step.1 in
     let byte = ap (λ p. p.byte) step.3 in
     let same = ap length (c.hand.ensures.bytes ∙ inv.0) in
@@ -46,8 +46,8 @@ loop-preserved g c =
     let q' = c.hand.new.self.at in
     let t = c.hand.new.taker in
     let handed = rw (inv.0, c.in_ok-hand.was, c.if-branch.true) at c.hand.ensures.handed in
-    let step = went _ _ _ _ _ _ t q' _ handed in
-    (c.hand.ensures.bytes ∙ inv.0, λ rec stands. sofar_more _ _ (inv.1 rec stands) t q' step.0 step.1 step.2 step.3)
+    let step = went _ _ _ _ t q' _ handed in
+    (c.hand.ensures.bytes ∙ inv.0, λ rec stands. sofar_more (inv.1 rec stands) t q' step.0 step.1 step.2 step.3)
 
 pub returns : goal.returns
 unfolding RunOn
@@ -59,6 +59,6 @@ returns g c =
     record {
       run = λ rec stands.
           let sofar = inv.1 rec stands in
-          sofar_stops _ _ sofar t q' None (none_left _ _ _ _ _ _ t q' sofar.rec' sofar.stands _ handed);
+          sofar_stops sofar t q' None (none_left _ _ _ _ t q' sofar.rec' sofar.stands _ handed);
       bytes = c.hand.ensures.bytes ∙ inv.0;
     }
