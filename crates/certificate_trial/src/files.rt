@@ -3,10 +3,7 @@ use crate::calls::Step;
 use anyhow::anyhow;
 use events::Event;
 use std::alloc::{AllocError, Global};
-use trace::write;
-
-// As long as a file may be.
-const LONGEST: usize = 65_536;
+use trace::{LONGEST, write};
 
 // The file of these steps, each of a thread and what it does, in sections of so many.
 pub(crate) fn written(heap: Global, counts: &[usize], steps: &[Step]) -> anyhow::Result<Vec<u8>> {
