@@ -1,22 +1,18 @@
 // Lists the trace file on standard input, and writes it back to see that the bytes are the same.
 #![tactic(auto)]
 
-mod words;
-
 use anyhow::anyhow;
 use events::Event;
 use std::io::Read;
-use trace::{Place, ReadError, Reader, Refusal, Trace, read_whole, write};
-use words::{meaning, sentence};
+use trace::{LONGEST, Place, ReadError, Reader, Refusal, Trace, read_whole, write};
 
-// A file may have 65,536 bytes; one more shows that it is longer.
-const ENOUGH: u64 = 65_537;
+// One byte more than a file may have shows that it is longer.
+const ENOUGH: u64 = LONGEST as u64 + 1;
 
 // The headings of the sections after `last`, up to `section`.
 fn headings(rt: &HostRuntime, last: usize, section: usize) -> anyhow::Result<()> {
-    for number in last..section {
-        let shown = number.saturating_add(1);
-        println!(rt; "section {shown}")?;
+    for number in (1..=section).skip(last) {
+        println!(rt; "section {number}")?;
     }
     Ok(())
 }
@@ -24,19 +20,14 @@ fn headings(rt: &HostRuntime, last: usize, section: usize) -> anyhow::Result<()>
 // An event with its number in the file and its first byte.
 fn event_line(rt: &HostRuntime, at: Place, byte: usize, event: Event) -> anyhow::Result<()> {
     let number = at.events;
-    let words = sentence(rt.alloc(), event)?;
-    println!(rt; "  event {number}, byte {byte}: {words}")?;
+    println!(rt; "  event {number}, byte {byte}: {event}")?;
     Ok(())
 }
 
-// The refusal with its number, its meaning and its site.
+// The refusal with its number, its site and its meaning.
 fn refusal_line(rt: &HostRuntime, refusal: Refusal) -> anyhow::Result<()> {
-    let number = refusal.fault.number();
-    let words = meaning(refusal.fault);
-    let section = refusal.at.section;
-    let event = refusal.at.event;
-    let byte = refusal.at.byte;
-    println!(rt; "refused {number} section {section} event {event} byte {byte}: {words}")?;
+    let meaning = refusal.fault;
+    println!(rt; "{refusal}: {meaning}")?;
     Ok(())
 }
 
@@ -48,7 +39,7 @@ fn list(rt: &HostRuntime, bytes: &[u8]) -> anyhow::Result<()> {
         Err(refusal) => return refusal_line(rt, refusal),
     };
     let mut last = 0;
-    // no event has fewer bytes than one, so this is enough
+    // no event has fewer bytes than one, so this is enough; a loop with no such bound would want a measure
     for _ in 0..bytes.len() {
         let before = reader.place();
         match reader.next() {

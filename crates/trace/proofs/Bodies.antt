@@ -1,6 +1,6 @@
 -- The bytes of several events, one event more, and cut in two. Assumes nothing.
 use Rattle.std.proofs.Common.{◌≡◌, ℕ, ◌+◌, ◌*◌, ◌<◌, ◌≤◌, List, [], ◌∷◌, ◌++◌, length, get_or, take, drop, sym, refl, ap, ◌∙◌, arith}
-use Rattle.std.proofs.lemmas.List.{append-nil, append_assoc, length-append, take_more, take_all, take-append-drop}
+use Rattle.std.proofs.lemmas.List.{append-nil, append_assoc, length-append, take_more, take-append-drop}
 use Rattle.std.proofs.lemmas.List.Concat.{length-flat_map}
 use Rattle.std.specs.List.{sum_by}
 use Rattle.events.specs.declared.Event.{Event}
@@ -43,9 +43,6 @@ body_split es i = ap body (sym (take-append-drop i es)) ∙ body_append (take i 
 
 pub length_body_take : (es : List Event) (i : ℕ) → length (body (take i es)) ≤ length (body es)
 length_body_take es i = let e = ap length (body_split es i) ∙ length-append (body (take i es)) (body (drop i es)) in omega arith
-
-pub length_body_all : (es : List Event) (i : ℕ) → length es ≤ i → length (body (take i es)) ≡ length (body es)
-length_body_all es i h = ap (λ l. length (body l)) (take_all i es h)
 
 pub length_body_sum : (es : List Event) → length (body es) ≡ sum_by (λ e. length (event_bytes e)) es
 unfolding body

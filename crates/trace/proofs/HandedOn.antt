@@ -1,16 +1,15 @@
 -- What handing an event on comes to. Assumes nothing.
-use Rattle.std.proofs.Common.{◌≡◌, ℕ, ◌+◌, ◌<◌, ◌≤◌, Bool, false, cond, List, length, get_or, is_ok, MatchResult, IsErrAnd, Some, None, Ok, Err, Option, Result, sym, ap, ◌∙◌, subst, arith}
-use Rattle.std.proofs.lemmas.Bool.{lt-ltb, le-ltb}
+use Rattle.std.proofs.Common.{◌≡◌, ℕ, ◌+◌, Bool, cond, List, get_or, is_ok, MatchResult, IsErrAnd, Some, None, Ok, Err, Option, Result, sym, ap, ◌∙◌, subst, arith}
 use Rattle.events.specs.declared.Event.{Event}
 use Rattle.trace.specs.declared.fault.TraceFault.{TraceFault}
 use Rattle.trace.specs.declared.fault.Site.{Site}
 use Rattle.trace.specs.declared.fault.Refusal.{Refusal}
 use Rattle.trace.specs.declared.place.Place.{Place}
 use Rattle.trace.specs.Codec.{size, event_at}
-use Rattle.trace.specs.Layout.{body_end, opening, section_at}
-use Rattle.trace.specs.Reading.{sections_or, site, placed, inside, taken, moved, kept, found, unless_refused, onward, behind, next, after}
+use Rattle.trace.specs.Layout.{body_end, section_at}
+use Rattle.trace.specs.Reading.{site, placed, inside, taken, moved, found, next, after}
 use Rattle.trace.specs.Handing.{answered, HandedAs, Handed}
-use Rattle.trace.proofs.Steps.{next_refused, entered_ok, after_stays}
+use Rattle.trace.proofs.Steps.{after_stays}
 
 -- a place behind the event is where its fields say
 pub moved_so : (bytes : List ℕ) (p q : Place) (s : ℕ) → s ≡ section_at bytes p.byte → q.section ≡ s → q.events ≡ p.events + 1 → q.byte ≡ p.byte + size (get_or bytes p.byte 0) → q ≡ moved bytes p
@@ -32,38 +31,6 @@ module _ {T E : Type 0} (took : T → Event → Site → Result (Unit {0}) E →
       let event : read ≡ event_at bytes p.byte (body_end bytes (section_at bytes p.byte)) = reads ∙ ap (event_at bytes p.byte) (stops ∙ ap (body_end bytes) at) in
       let is : taken bytes p ≡ Ok e = ap (placed (site bytes p)) (sym event ∙ ok) in
       subst (λ o. HandedAs took converts o (site bytes p) p (moved bytes p) t t' q r) (sym (ap found is)) (x, subst (λ a. took t e a x t') here (subst (λ y. took t e (record { section = s; event = p.events + 1; byte = p.byte }) y t') came takes), tells, stands)
-
-  -- the file does not open
-  pub handed_unopened : (f : Refusal) (t t' : T) (q : Place) (r : Result Bool E) → sections_or bytes (opening bytes) ≡ Err f → IsErrAnd r (converts f) → t' ≡ t → q ≡ inside bytes p → Handed took converts bytes p t t' q r
-  handed_unopened f t t' q r e tells same stands =
-      let first = next_refused bytes p f e in
-      subst (λ o. HandedAs took converts o (site bytes (inside bytes p)) (inside bytes p) (after bytes p) t t' q r) (sym first.0) (tells, same, stands)
-
-  -- it opens, and q₀ is where the reader stands inside it
-  module _ (n : ℕ) (q₀ : Place) (opens : sections_or bytes (opening bytes) ≡ Ok n) (in' : q₀ ≡ inside bytes p) where
-    next_inside : next bytes p ≡ onward bytes q₀
-    next_inside = ap (λ o. unless_refused o Err (onward bytes (inside bytes p))) (entered_ok bytes n opens).0 ∙ ap (onward bytes) (sym in')
-
-    after_inside : after bytes p ≡ behind bytes q₀
-    after_inside = ap (λ o. unless_refused o (λ _. p) (behind bytes (inside bytes p))) (entered_ok bytes n opens).0 ∙ ap (behind bytes) (sym in')
-
-    -- there is no event left
-    pub handed_none : (t t' : T) (q : Place) (r : Result Bool E) → length bytes ≤ q₀.byte → r ≡ Ok false → t' ≡ t → q ≡ q₀ → Handed took converts bytes p t t' q r
-    handed_none t t' q r none tells same stands =
-        let no = le-ltb q₀.byte (length bytes) none in
-        subst (λ o. HandedAs took converts o (site bytes (inside bytes p)) (inside bytes p) (after bytes p) t t' q r) (sym (next_inside ∙ ap (λ b. cond b (found (taken bytes q₀)) (Ok None)) no)) (tells, same, stands ∙ in')
-
-    -- there is one
-    pub handed_more : (t t' : T) (q : Place) (r : Result Bool E) → q₀.byte < length bytes → HandedAs took converts (found (taken bytes q₀)) (site bytes q₀) q₀ (moved bytes q₀) t t' q r → Handed took converts bytes p t t' q r
-    handed_more t t' q r some handed =
-        let yes = lt-ltb q₀.byte (length bytes) some in
-        let reads : next bytes p ≡ found (taken bytes q₀) = next_inside ∙ ap (λ b. cond b (found (taken bytes q₀)) (Ok None)) yes in
-        let goes : after bytes p ≡ kept (taken bytes q₀) q₀ (moved bytes q₀) = after_inside ∙ ap (λ b. cond b (kept (taken bytes q₀) q₀ (moved bytes q₀)) q₀) yes in
-        subst (λ o. HandedAs took converts o (site bytes (inside bytes p)) (inside bytes p) (after bytes p) t t' q r) (sym reads) (subst (λ z. HandedAs took converts (found (taken bytes q₀)) (site bytes z) z (after bytes p) t t' q r) in' (moves (taken bytes q₀) goes handed))
-      where
-        moves : (o : Result Event Refusal) → after bytes p ≡ kept o q₀ (moved bytes q₀) → HandedAs took converts (found o) (site bytes q₀) q₀ (moved bytes q₀) t t' q r → HandedAs took converts (found o) (site bytes q₀) q₀ (after bytes p) t t' q r
-        moves (Ok e) goes h = subst (λ m. HandedAs took converts (Ok (Some e)) (site bytes q₀) q₀ m t t' q r) (sym goes) h
-        moves (Err f) goes h = h
 
 -- what is told by a taker that keeps the event
 abbrev pub Keeps : Option Event → Event → Site → Result (Unit {0}) Refusal → Option Event → Type 0

@@ -1,14 +1,11 @@
 -- What is known of a file that opens: where its bodies end, and which section holds a byte. Assumes nothing.
-use Rattle.std.proofs.Common.{◌≡◌, ℕ, zero, suc, ◌+◌, ◌-◌, ◌*◌, ◌<◌, ◌≤◌, Bool, true, false, cond, eqb, leb, List, length, is_some, is_ok, Some, None, Ok, Err, Option, Result, sym, refl, ap, ◌∙◌, subst, ⊎_elim, add-one, arith}
+use Rattle.std.proofs.Common.{◌≡◌, ℕ, zero, suc, ◌+◌, ◌-◌, ◌*◌, ◌<◌, ◌≤◌, Bool, true, false, cond, eqb, leb, List, length, is_some, Some, None, Option, sym, refl, ap, ◌∙◌, subst, ⊎_elim, add-one, arith}
 use Rattle.std.proofs.lemmas.Bool.{cond_both, true≢false, and_parts, not-false, eqb-true, leb-true, ltb-false, le-leb, lt-leb, cases_lt}
-use Rattle.events.specs.declared.Event.{Event}
-use Rattle.trace.specs.declared.fault.Site.{Site}
-use Rattle.trace.specs.declared.fault.TraceFault.{TraceFault}
 use Rattle.trace.specs.declared.place.Place.{Place}
 use Rattle.trace.specs.Codec.{size}
 use Rattle.trace.specs.Words.{word}
 use Rattle.trace.specs.Layout.{count, entry_offset, entry_length, body_end, good_entry, bad_entry, entries, opening, ended, section_at}
-use Rattle.trace.specs.Reading.{origin, placed, Stands}
+use Rattle.trace.specs.Reading.{origin, Stands}
 use Rattle.trace.proofs.Entries.{body_end_none, body_end_more}
 
 -- nothing is refused at a test: it came out false, and nothing is refused after it
@@ -147,8 +144,3 @@ stands_behind {bytes} file p q s k few low least section events byte high =
     let some = size_some k in
     let end = within file s few in
     (omega arith, subst (λ n. body_end bytes (n - 1) ≤ q.byte) (sym section) (omega arith), omega arith, omega arith)
-
--- a fault that is told with its site was a fault before
-pub placed_ok : (s : Site) (r : Result Event TraceFault) (e : Event) → placed s r ≡ Ok e → is_ok r ≡ true
-placed_ok s (Ok x) e h = refl
-placed_ok s (Err f) e h = absurd (let z : ◌≡◌ {A = ℕ} 0 1 = cc in omega arith)

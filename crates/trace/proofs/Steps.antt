@@ -12,10 +12,6 @@ use Rattle.trace.specs.Layout.{count, body_end, opening, section_at}
 use Rattle.trace.specs.Reading.{sections_or, site, placed, origin, outside, entered, inside, taken, moved, kept, found, unless_refused, onward, behind, next, after}
 use Rattle.trace.proofs.Opened.{size_some}
 
-refused_by : (bytes : List ℕ) (o : Option Refusal) (f : Refusal) → sections_or bytes o ≡ Err f → o ≡ Some f
-refused_by bytes (Some x) f e = cc
-refused_by bytes None f e = absurd (let z : ◌≡◌ {A = ℕ} 0 1 = cc in omega arith)
-
 opened_by : (bytes : List ℕ) (o : Option Refusal) (n : ℕ) → sections_or bytes o ≡ Ok n → o ≡ None
 opened_by bytes (Some x) n e = absurd (let z : ◌≡◌ {A = ℕ} 0 1 = cc in omega arith)
 opened_by bytes None n e = refl
@@ -23,15 +19,6 @@ opened_by bytes None n e = refl
 either : {A : Type 0} (b : Bool) (x : A) → cond b x x ≡ x
 either true x = refl
 either false x = refl
-
--- the file does not open
-pub next_refused : (bytes : List ℕ) (p : Place) (f : Refusal) → sections_or bytes (opening bytes) ≡ Err f → (next bytes p ≡ Err f) × (after bytes p ≡ p) × (inside bytes p ≡ p)
-next_refused bytes p f e =
-    let o = refused_by bytes (opening bytes) f e in (
-      ap (λ r. unless_refused r Err (onward bytes (inside bytes p))) o,
-      ap (λ r. unless_refused r (λ _. p) (behind bytes (inside bytes p))) o,
-      ap (λ r. cond (eqb p.byte 0) (entered bytes r p) p) o ∙ either (eqb p.byte 0) p,
-    )
 
 behind_stays : (b : Bool) (r : Result Event Refusal) (q m : Place) → ((e : Event) → cond b (found r) (Ok None) ≡ Ok (Some e) → ⊥) → cond b (kept r q m) q ≡ q
 behind_stays true (Ok e) q m none = absurd (none e refl)

@@ -41,10 +41,6 @@ entries_none s counts events held = record {
 }
 
 module _ {s t : Sheet} {counts : List ℕ} {events left : List Event} {i offset : ℕ} (sofar : Entries s counts events i offset left t) (next : i < length counts) where
-  -- the next section's events are there
-  pub section_within : get_or counts i 0 ≤ length left
-  section_within = let more = sum_by-drop_more (λ x. x) counts i 0 next in omega (arith, sofar.held)
-
   -- the file does not grow past its size
   pub offset_within : offset + length (body (take (get_or counts i 0) left)) ≤ 4 + 8 * length counts + length (body events)
   offset_within =

@@ -4,10 +4,11 @@
 mod files;
 
 use events::{Action, Event};
-use files::{empties, reads, single, told};
-use trace::{ReadError, Reader, read_whole, write};
+use files::{empties, reads};
+use handmade::{single, told};
+use trace::{Reader, read_whole, write};
 
-// How a file reads: its events and sections, or the refusal.
+// How a file reads: its events and sections, or why it does not.
 fn show(rt: &HostRuntime, name: &str, bytes: &[u8]) -> anyhow::Result<()> {
     match read_whole(rt.alloc(), bytes) {
         Ok(trace) => {
@@ -15,89 +16,61 @@ fn show(rt: &HostRuntime, name: &str, bytes: &[u8]) -> anyhow::Result<()> {
             let sections = trace.counts.len();
             println!(rt; "{name}: events {events} sections {sections}")?;
         }
-        Err(ReadError::Refused(refusal)) => {
-            let number = refusal.fault.number();
-            let section = refusal.at.section;
-            let event = refusal.at.event;
-            let byte = refusal.at.byte;
-            println!(rt; "{name}: refused {number} section {section} event {event} byte {byte}")?;
-        }
-        Err(ReadError::Memory) => println!(rt; "{name}: no memory")?,
+        Err(error) => println!(rt; "{name}: {error}")?,
     }
     Ok(())
 }
 
 fn headers(rt: &HostRuntime) -> anyhow::Result<()> {
-    show(rt, "no bytes", b"")?;
-    show(rt, "three bytes", &[1, 0, 0])?;
-    show(rt, "edition 2", &[2, 0, 0, 0])?;
-    show(rt, "edition 257", &[1, 1, 0, 0])?;
-    show(rt, "no sections", &[1, 0, 0, 0])?;
-    show(rt, "a byte behind no sections", &[1, 0, 0, 0, 0])?;
-    show(rt, "256 sections told of", &[1, 0, 0, 1])?;
-    show(rt, "257 sections told of", &[1, 0, 1, 1])?;
-    show(rt, "contents cut", &[1, 0, 1, 0, 12, 0, 0, 0, 0, 0, 0])?;
+    let files: [(&str, &[u8]); 9] = [
+        ("no bytes", &[]),
+        ("three bytes", &[1, 0, 0]),
+        ("edition 2", &[2, 0, 0, 0]),
+        ("edition 257", &[1, 1, 0, 0]),
+        ("no sections", &[1, 0, 0, 0]),
+        ("a byte behind no sections", &[1, 0, 0, 0, 0]),
+        ("256 sections told of", &[1, 0, 0, 1]),
+        ("257 sections told of", &[1, 0, 1, 1]),
+        ("contents cut", &[1, 0, 1, 0, 12, 0, 0, 0, 0, 0, 0]),
+    ];
+    for (name, bytes) in files {
+        show(rt, name, bytes)?;
+    }
     show(rt, "256 sections", empties(rt.alloc(), 256)?.as_slice())?;
     show(rt, "257 sections", empties(rt.alloc(), 257)?.as_slice())
 }
 
 fn entries(rt: &HostRuntime) -> anyhow::Result<()> {
     let heap = rt.alloc();
-    let event = [0, 0, 5];
-    show(
-        rt,
-        "offset one short",
-        told(heap, 1, &[(11, 3)], &event)?.as_slice(),
-    )?;
-    show(
-        rt,
-        "offset one long",
-        told(heap, 1, &[(13, 3)], &event)?.as_slice(),
-    )?;
-    show(
-        rt,
-        "length one long",
-        told(heap, 1, &[(12, 4)], &event)?.as_slice(),
-    )?;
-    show(
-        rt,
-        "greatest length",
-        told(heap, 1, &[(12, u32::MAX)], &event)?.as_slice(),
-    )?;
-    show(
-        rt,
-        "a byte behind the body",
-        told(heap, 1, &[(12, 2)], &event)?.as_slice(),
-    )?;
-    show(
-        rt,
-        "second offset one short",
-        told(heap, 2, &[(20, 3), (22, 0)], &event)?.as_slice(),
-    )?;
-    show(
-        rt,
-        "second length one long",
-        told(heap, 2, &[(20, 0), (20, 4)], &event)?.as_slice(),
-    )?;
-    show(
-        rt,
-        "a gap between bodies",
-        told(heap, 2, &[(20, 1), (22, 1)], &event)?.as_slice(),
-    )?;
-    show(rt, "65536 bytes", reads(heap, 21_836)?.as_slice())?;
+    let files: [(&str, u16, &[(u32, u32)]); 8] = [
+        ("offset one short", 1, &[(11, 3)]),
+        ("offset one long", 1, &[(13, 3)]),
+        ("length one long", 1, &[(12, 4)]),
+        ("greatest length", 1, &[(12, u32::MAX)]),
+        ("a byte behind the body", 1, &[(12, 2)]),
+        ("second offset one short", 2, &[(20, 3), (22, 0)]),
+        ("second length one long", 2, &[(20, 0), (20, 4)]),
+        ("a gap between bodies", 2, &[(20, 1), (22, 1)]),
+    ];
+    for (name, sections, entries) in files {
+        let file = told(heap, sections, entries, &[0, 0, 5])?;
+        show(rt, name, file.as_slice())?;
+    }
     let mut long = reads(heap, 21_836)?;
+    show(rt, "65536 bytes", long.as_slice())?;
     long.push(0)?;
     show(rt, "65537 bytes", long.as_slice())
 }
 
 fn bodies(rt: &HostRuntime) -> anyhow::Result<()> {
     let heap = rt.alloc();
-    show(
-        rt,
-        "kind 10",
-        single(heap, &[0, 0, 5, 10, 0, 5])?.as_slice(),
-    )?;
-    show(rt, "kind 255 alone", single(heap, &[255])?.as_slice())?;
+    let bodies: [(&str, &[u8]); 2] = [
+        ("kind 10", &[0, 0, 5, 10, 0, 5]),
+        ("kind 255 alone", &[255]),
+    ];
+    for (name, body) in bodies {
+        show(rt, name, single(heap, body)?.as_slice())?;
+    }
     show(
         rt,
         "event split over two sections",
@@ -157,20 +130,26 @@ fn writes(rt: &HostRuntime) -> anyhow::Result<()> {
         action: Action::Read { place: 5 },
     };
     let some = [read, read];
-    wrote(rt, &some, &[2], 18)?;
-    wrote(rt, &some, &[2], 17)?;
-    wrote(rt, &some, &[0, 1, 0, 1], 60)?;
-    wrote(rt, &some, &[1], 60)?;
-    wrote(rt, &some, &[3], 60)?;
-    wrote(rt, &some, &[usize::MAX, 3], 60)?;
-    wrote(rt, &[], &[], 4)?;
-    let most = vec![in rt.alloc(); 0usize; 256]?;
-    wrote(rt, &[], most.as_slice(), 2_052)?;
-    let over = vec![in rt.alloc(); 0usize; 257]?;
-    wrote(rt, &[], over.as_slice(), 3_000)?;
     let many = vec![in rt.alloc(); read; 21_836]?;
-    wrote(rt, many.as_slice(), &[0, 0, 21_836], 65_536)?;
-    wrote(rt, many.as_slice(), &[0, 0, 0, 21_836], 65_544)
+    let most = vec![in rt.alloc(); 0usize; 256]?;
+    let over = vec![in rt.alloc(); 0usize; 257]?;
+    let rows: [(&[Event], &[usize], usize); 11] = [
+        (&some, &[2], 18),
+        (&some, &[2], 17),
+        (&some, &[0, 1, 0, 1], 60),
+        (&some, &[1], 60),
+        (&some, &[3], 60),
+        (&some, &[usize::MAX, 3], 60),
+        (&[], &[], 4),
+        (&[], most.as_slice(), 2_052),
+        (&[], over.as_slice(), 3_000),
+        (many.as_slice(), &[0, 0, 21_836], 65_536),
+        (many.as_slice(), &[0, 0, 0, 21_836], 65_544),
+    ];
+    for (events, counts, room) in rows {
+        wrote(rt, events, counts, room)?;
+    }
+    Ok(())
 }
 
 fn main(rt: HostRuntime) -> anyhow::Result<()> {

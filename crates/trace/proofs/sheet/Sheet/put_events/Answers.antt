@@ -1,9 +1,6 @@
-use Rattle.std.proofs.Common.{◌+◌, length, get_or, sym, ap, subst, arith}
+use Rattle.std.proofs.Common.{◌+◌, length, get_or, sym, arith}
 use Rattle.std.proofs.ByRecursion.{All-more}
-use Rattle.std.proofs.lemmas.List.{take_all}
-use Rattle.std.specs.List.{AllByRecursion}
 use Rattle.trace.specs.Codec.{event_bytes, Words}
-use Rattle.trace.specs.File.{body}
 use Rattle.trace.proofs.Bodies.{blank, body_none, body_more, length_body_more, length_body_take}
 use Rattle.trace.proofs.Sheets.{adds_none, adds_more, adds_known, room_left}
 use Rattle.trace.proofs.sheet.Sheet.put_events.Goals as goal
@@ -26,12 +23,4 @@ loop-event-preserved c =
     record {
       put = adds_known (adds_more c.loop-event.invariant.put c.put_event.ensures.after (omega arith)) (sym (body_more es i c.loop-event-test.true));
       words = All-more (λ x. Words x.action) es i blank c.loop-event-test.true c.loop-event.invariant.words c.put_event.ensures.words;
-    }
-
-pub returns : goal.returns
-returns c =
-    let all = take_all c.loop-event.event-index c.args.events.now c.loop-event-test.false in
-    record {
-      words = subst (λ l. AllByRecursion (λ x. Words x.action) l) all c.loop-event.invariant.words;
-      after = adds_known c.loop-event.invariant.put (ap body all);
     }
