@@ -1,10 +1,8 @@
 -- A file has one outcome, and so one certificate. Assumes nothing.
-use Rattle.std.proofs.Common.{◌≡◌, ℕ, cond, eqb, List, [], ◌∷◌, length, IfOk, Some, None, Ok, Err, string_bytes, Option, Result, String, sym, refl, ap, ◌∙◌, subst, arith}
+use Rattle.std.proofs.Common.{◌≡◌, ℕ, List, [], ◌∷◌, length, IfOk, Some, None, Ok, Err, string_bytes, Option, Result, String, sym, ap, ◌∙◌, subst, arith}
 use Rattle.events.specs.declared.Event.{Event}
 use Rattle.order.specs.Judgement.{Answer, accepted, refused, declined, judge, recorded}
-use Rattle.roster.specs.declared.fault.RuleFault.{RuleFault}
-use Rattle.roster.specs.declared.fault.RuleFault.TheVariants.{NoSuchThread, NoSuchThing, NotRunning, ForkedBefore, JoinsAmiss, LockHeld, LockNotHeld, JoinedHolds, RecordFull}
-use Rattle.roster.specs.Numbers.{fault_number}
+use Rattle.roster.proofs.Numbers.{same_fault}
 use Rattle.trace.specs.declared.fault.Refusal.{Refusal}
 use Rattle.trace.specs.declared.fault.Site.{Site}
 use Rattle.trace.specs.declared.place.Place.{Place}
@@ -16,34 +14,18 @@ use Rattle.certificate.specs.declared.finding.Finding.{Finding}
 use Rattle.certificate.specs.Running.{listed, Passes, Halts, Outcome, StopsAs, Runs}
 use Rattle.std.specs.declared.alloc.AllocError.{AllocError}
 use Rattle.std.specs.declared.alloc.Global.{Global}
-use Rattle.keepers.specs.Meaning.{Meaning}
+use Rattle.keepers.specs.declared.keeper.Keeper.{Ghosts}
 use Rattle.monitor.specs.declared.monitor.Monitor.{Monitor}
 use Rattle.monitor.specs.Stands.{Stands}
 use Rattle.certificate.specs.Sentence.{Certified}
 use Rattle.certificate.specs.Texts.{text}
 use Rattle.certificate.specs.Certified.{Certifies, Agree}
 
--- no two refusals have one number
-of_number : ℕ → RuleFault
-of_number n = cond (eqb n 1) NoSuchThread (cond (eqb n 2) NoSuchThing (cond (eqb n 3) NotRunning (cond (eqb n 4) ForkedBefore (cond (eqb n 5) JoinsAmiss (cond (eqb n 6) LockHeld (cond (eqb n 7) LockNotHeld (cond (eqb n 8) JoinedHolds RecordFull)))))))
-
-numbered_back : (f : RuleFault) → of_number (fault_number f) ≡ f
-unfolding of_number
-numbered_back NoSuchThread = refl
-numbered_back NoSuchThing = refl
-numbered_back NotRunning = refl
-numbered_back ForkedBefore = refl
-numbered_back JoinsAmiss = refl
-numbered_back LockHeld = refl
-numbered_back LockNotHeld = refl
-numbered_back JoinedHolds = refl
-numbered_back RecordFull = refl
-
+-- two causes that halt a run at one event are the same
 same_halt : (fs : List Finding) (a : Answer) (c d : Cause) → Halts fs a c → Halts fs a d → c ≡ d
 same_halt fs (accepted s) c d h k = absurd h
 same_halt fs (refused n) c d (f, is, number) (g, is', number') =
-    let same : f ≡ g = sym (numbered_back f) ∙ ap of_number (number ∙ sym number') ∙ numbered_back g in
-    is ∙ ap ByMonitor same ∙ sym is'
+    is ∙ ap ByMonitor (same_fault f g (number ∙ sym number')) ∙ sym is'
 same_halt fs (declined p w) c d h k = h.1 ∙ sym k.1
 
 halts_or_passes : (fs : List Finding) (a : Answer) (c : Cause) → Halts fs a c → Passes fs a → ⊥
@@ -84,12 +66,12 @@ agree bytes t t' c d =
     c.is ∙ ap (λ o. text (length o.recorded_as) o.findings o.end) (one_outcome bytes outside [] [] c.events d.events c.outcome d.outcome c.runs d.runs) ∙ sym d.is
 
 -- the text that is made of what a run leaves
-pub certifies : {K : Type 0} (live : K → Type 0) (meaning : K → Meaning) (bytes : List ℕ) (q : Place) (m : Monitor K) (fs : List Finding) (end : Option Fault) (n : ℕ) → Certified live meaning bytes outside [] q m fs end → ((rec : List Event) → Stands live meaning rec m → n ≡ length rec) → (r : Result (String Global) AllocError) → IfOk r (λ t. string_bytes t ≡ text n fs end) → IfOk r (λ t. Certifies bytes (string_bytes t))
-certifies live meaning bytes q m fs end n run counts (Ok t) is = record {
+pub certifies : {K : Type 0} {its : Ghosts K} (bytes : List ℕ) (q : Place) (m : Monitor K its) (fs : List Finding) (end : Option Fault) (n : ℕ) → Certified bytes outside [] q m fs end → ((rec : List Event) → Stands rec m → n ≡ length rec) → (r : Result (String Global) AllocError) → IfOk r (λ t. string_bytes t ≡ text n fs end) → IfOk r (λ t. Certifies bytes (string_bytes t))
+certifies bytes q m fs end n run counts (Ok t) is = record {
   events = run.came.events;
   outcome = record { recorded_as = run.came.rec'; findings = fs; end = end; place = q };
   runs = run.came.runs;
   says = run.says;
   is = is ∙ ap (λ k. text k fs end) (counts run.came.rec' run.came.stands);
 }
-certifies live meaning bytes q m fs end n run counts (Err e) is = tt
+certifies bytes q m fs end n run counts (Err e) is = tt

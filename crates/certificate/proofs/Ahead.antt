@@ -13,11 +13,11 @@ inside_on bytes p = cond_both (eqb p.byte 0) (entered bytes (opening bytes) p) p
 
 taken_on : (bytes : List ℕ) (q : Place) (e : Event) (b : Bool) (r : Result Event Refusal) → cond b (found r) (Ok None) ≡ Ok (Some e) → q.byte < (cond b (kept r q (moved bytes q)) q).byte
 taken_on bytes q e true (Ok x) h = let some = size_some (get_or bytes q.byte 0) in omega arith
-taken_on bytes q e true (Err f) h = absurd (let z : ◌≡◌ {A = ℕ} 0 1 = cc in omega arith)
-taken_on bytes q e false r h = absurd (let z : ◌≡◌ {A = ℕ} 0 1 = cc in omega arith)
+taken_on bytes q e true (Err f) h = absurd (cc)
+taken_on bytes q e false r h = absurd (cc)
 
 opened_on : (bytes : List ℕ) (p q : Place) (e : Event) (o : Option Refusal) → unless_refused o Err (onward bytes q) ≡ Ok (Some e) → q.byte < (unless_refused o (λ _. p) (behind bytes q)).byte
-opened_on bytes p q e (Some f) h = absurd (let z : ◌≡◌ {A = ℕ} 0 1 = cc in omega arith)
+opened_on bytes p q e (Some f) h = absurd (cc)
 opened_on bytes p q e None h = taken_on bytes q e (ltb q.byte (length bytes)) (taken bytes q) h
 
 pub ahead : (bytes : List ℕ) (p : Place) (e : Event) → next bytes p ≡ Ok (Some e) → p.byte < (after bytes p).byte
@@ -28,11 +28,11 @@ inside_again bytes p some = cond-false (eqb p.byte 0) _ p (ne_eqb p.byte 0 (λ z
 
 taken_count : (bytes : List ℕ) (q : Place) (e : Event) (b : Bool) (r : Result Event Refusal) → cond b (found r) (Ok None) ≡ Ok (Some e) → (cond b (kept r q (moved bytes q)) q).events ≡ q.events + 1
 taken_count bytes q e true (Ok x) h = refl
-taken_count bytes q e true (Err f) h = absurd (let z : ◌≡◌ {A = ℕ} 0 1 = cc in omega arith)
-taken_count bytes q e false r h = absurd (let z : ◌≡◌ {A = ℕ} 0 1 = cc in omega arith)
+taken_count bytes q e true (Err f) h = absurd (cc)
+taken_count bytes q e false r h = absurd (cc)
 
 opened_count : (bytes : List ℕ) (p q : Place) (e : Event) (o : Option Refusal) → unless_refused o Err (onward bytes q) ≡ Ok (Some e) → (unless_refused o (λ _. p) (behind bytes q)).events ≡ q.events + 1
-opened_count bytes p q e (Some f) h = absurd (let z : ◌≡◌ {A = ℕ} 0 1 = cc in omega arith)
+opened_count bytes p q e (Some f) h = absurd (cc)
 opened_count bytes p q e None h = taken_count bytes q e (ltb q.byte (length bytes)) (taken bytes q) h
 
 -- each event that is read is counted

@@ -1,6 +1,10 @@
--- The lines of findings, one after another. Assumes nothing.
-use Rattle.std.proofs.Common.{◌≡◌, ℕ, ◌+◌, ◌<◌, ◌≤◌, List, [], ◌∷◌, ◌++◌, length, get_or, take, Option, sym, refl, ap, ◌∙◌}
+-- The lines of a certificate, one after another. Assumes nothing.
+use Rattle.std.proofs.Common.{◌≡◌, ℕ, ◌+◌, ◌<◌, ◌≤◌, List, [], ◌∷◌, ◌++◌, length, get_or, take, Option, None, sym, refl, ap, ◌∙◌, arith}
 use Rattle.std.proofs.lemmas.List.{append-nil, append_assoc, take_more, take_all}
+use Rattle.std.proofs.Output.{writes_in_calls_nil, has_written_append, has_written_of_eq}
+use Rattle.std.specs.declared.fmt.Formatter.{Formatter}
+use Rattle.std.specs.Prelude.{codes}
+use Rattle.std.specs.Fmt.{HasWritten, IsPlainFormatter}
 use Rattle.certificate.specs.declared.fault.Fault.{Fault}
 use Rattle.certificate.specs.declared.finding.Finding.{Finding}
 use Rattle.certificate.specs.Texts.{finding_text, findings_text, first_text, last_text, text}
@@ -14,23 +18,34 @@ findings_one : (f : Finding) → findings_text (f ∷ []) ≡ finding_text f ++ 
 unfolding findings_text
 findings_one f = append-nil (finding_text f ++ (10 ∷ []))
 
--- no line yet
-pub lines_none : (old : List ℕ) → old ≡ old ++ findings_text []
-unfolding findings_text
-lines_none old = sym (append-nil old)
+findings_more : (fs : List Finding) (i : ℕ) (d : Finding) → i < length fs → findings_text (take i fs) ++ (finding_text (get_or fs i d) ++ (10 ∷ [])) ≡ findings_text (take (i + 1) fs)
+findings_more fs i d h =
+    ap (λ l. findings_text (take i fs) ++ l) (sym (findings_one (get_or fs i d))) ∙ sym (findings_append (take i fs) (get_or fs i d ∷ [])) ∙ ap findings_text (sym (take_more fs i d h))
 
--- one line more
-pub lines_more : (old now new line : List ℕ) (fs : List Finding) (i : ℕ) (d : Finding) → i < length fs → now ≡ old ++ findings_text (take i fs) → line ≡ finding_text (get_or fs i d) ++ (10 ∷ []) → new ≡ now ++ line → new ≡ old ++ findings_text (take (i + 1) fs)
-lines_more old now new line fs i d h sofar is more =
-    let next = ap findings_text (take_more fs i d h) ∙ findings_append (take i fs) (get_or fs i d ∷ []) ∙ ap (λ l. findings_text (take i fs) ++ l) (findings_one (get_or fs i d)) in
-    more ∙ ap (λ l. l ++ line) sofar ∙ append_assoc old (findings_text (take i fs)) line ∙ ap (λ l. old ++ (findings_text (take i fs) ++ l)) is ∙ ap (λ l. old ++ l) (sym next)
+-- the last line where no fault ended the run
+pub last_clean : (fs : List Finding) (end : Option Fault) → length fs < 1 → end ≡ None → codes "clean" ++ (10 ∷ []) ≡ last_text fs end
+last_clean [] end few none = sym (ap (last_text []) none)
+last_clean (f ∷ fs) end few none = absurd (omega arith)
 
--- all of them
-pub lines_all : (old now : List ℕ) (fs : List Finding) (i : ℕ) → length fs ≤ i → now ≡ old ++ findings_text (take i fs) → now ≡ old ++ findings_text fs
-lines_all old now fs i h sofar = sofar ∙ ap (λ l. old ++ findings_text l) (take_all i fs h)
+pub last_not_clean : (fs : List Finding) (end : Option Fault) → 0 < length fs → end ≡ None → codes "not clean" ++ (10 ∷ []) ≡ last_text fs end
+last_not_clean [] end some none = absurd (omega arith)
+last_not_clean (f ∷ fs) end some none = sym (ap (last_text (f ∷ fs)) none)
 
--- first line, findings and last line make the text
-pub text_so : (a n : ℕ) (fs : List Finding) (end : Option Fault) (first some last all : List ℕ) → n ≡ length fs → first ≡ first_text a n → some ≡ first ++ findings_text fs → last ≡ last_text fs end → all ≡ some ++ last → all ≡ text a fs end
-unfolding text
-text_so a n fs end first some last all many is more ends whole =
-    whole ∙ ap (λ l. l ++ last) more ∙ ap (λ l. (first ++ findings_text fs) ++ l) ends ∙ ap (λ l. (l ++ findings_text fs) ++ last_text fs end) (is ∙ ap (first_text a) many)
+module _ {W : Type 0} (took : W → List ℕ → W → Type 0) (f : Formatter W) where
+  -- no line yet
+  pub written_none : IsPlainFormatter f → HasWritten took f (findings_text []) f
+  unfolding findings_text
+  written_none plain = record { wrote = writes_in_calls_nil took f.writer; plain = plain }
+
+  module _ (g h : Formatter W) where
+    -- one line more
+    pub written_more : (fs : List Finding) (i : ℕ) (d : Finding) → i < length fs → HasWritten took f (findings_text (take i fs)) g → HasWritten took g (finding_text (get_or fs i d) ++ (10 ∷ [])) h → HasWritten took f (findings_text (take (i + 1) fs)) h
+    written_more fs i d lt sofar line = has_written_of_eq took f _ _ h (findings_more fs i d lt) (has_written_append took f _ g _ h sofar line)
+
+    -- first line, findings and last line make the text
+    pub written_text : (e : Formatter W) (a : ℕ) (fs : List Finding) (i : ℕ) (end : Option Fault) (last : List ℕ) → length fs ≤ i → HasWritten took e (first_text a (length fs)) f → HasWritten took f (findings_text (take i fs)) g → HasWritten took g last h → last ≡ last_text fs end → HasWritten took e (text a fs end) h
+    unfolding text
+    written_text e a fs i end last all first some ends is =
+        let lines = ap findings_text (take_all i fs all) in
+        let whole : (first_text a (length fs) ++ findings_text (take i fs)) ++ last ≡ (first_text a (length fs) ++ findings_text fs) ++ last_text fs end = cc in
+        has_written_of_eq took e _ _ h whole (has_written_append took e _ g _ h (has_written_append took e _ f _ g first some) ends)

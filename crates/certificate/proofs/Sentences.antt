@@ -55,7 +55,7 @@ ends_right bytes p rec fs o e place same stay reads (declined q w) right c (many
     subst (EndsRightly bytes o) (sym is) (let size = ap length stay in omega arith, (p, e, q, w, place, reads, subst (λ r. Right r e (declined q w)) (sym same) right))
 
 stop_right : (bytes : List ℕ) (p : Place) (rec : List Event) (fs : List Finding) (o : Outcome) → Lawful rec → RaceFree rec → o.place ≡ inside bytes p → o.recorded_as ≡ rec → o.findings ≡ fs → (r : Result (Option Event) Refusal) → next bytes p ≡ r → StopsAs r (site bytes (inside bytes p)) rec fs o.end → (f : Fault) → o.end ≡ Some f → EndsRightly bytes o f.cause
-stop_right bytes p rec fs o lawful free place same stay (Ok None) reads h f end = absurd (let z : ◌≡◌ {A = ℕ} 0 1 = cc in omega arith)
+stop_right bytes p rec fs o lawful free place same stay (Ok None) reads h f end = absurd (cc)
 stop_right bytes p rec fs o lawful free place same stay (Err r) reads h f end = let is : f.cause ≡ Trace r.fault = cc in subst (EndsRightly bytes o) (sym is) tt
 stop_right bytes p rec fs o lawful free place same stay (Ok (Some e)) reads (c, halts, h) f end =
     let is : f.cause ≡ c = cc in

@@ -3,4 +3,5 @@ pub mod Running
 pub mod Sentence
 pub mod Texts
 pub mod Certified
+pub mod Call
 pub mod Host

@@ -5,9 +5,9 @@
 --   Halts fs a c           an event so answered ends the run, for the cause c
 --   Runs bytes p rec fs es o   from the place p, the record and the findings on, the events es are read and pass, and then
 --                          the run comes to the outcome o
-use Rattle.std.specs.Prelude.{◌≡◌, ℕ, ◌<◌, ◌≤◌, List, [], ◌∷◌, ◌++◌, length, Some, None, Ok, Err, vec_items, Option, Result}
+use Rattle.std.specs.Prelude.{◌≡◌, ℕ, ◌<◌, ◌≤◌, List, [], ◌∷◌, ◌++◌, length, Some, None, Ok, Err, Option, Result}
 use Rattle.events.specs.declared.Event.{Event}
-use Rattle.keepers.specs.Meaning.{Meaning}
+use Rattle.keepers.specs.declared.keeper.Keeper.{Ghosts}
 use Rattle.order.specs.Judgement.{Answer, accepted, refused, declined, judge, recorded}
 use Rattle.roster.specs.declared.fault.RuleFault.{RuleFault}
 use Rattle.roster.specs.Numbers.{fault_number}
@@ -24,7 +24,6 @@ use Rattle.certificate.specs.declared.fault.Cause.TheVariants.{Trace, Monitor as
 use Rattle.certificate.specs.declared.fault.Fault.{Fault}
 use Rattle.certificate.specs.declared.finding.Finding.{Finding}
 use Rattle.certificate.specs.declared.run.Run.{Run}
-use Rattle.certificate.specs.declared.running.Race.{Race}
 
 unfoldable pub recorded_all : List Event → List Event → List Event
 recorded_all rec [] = rec
@@ -78,12 +77,6 @@ abbrev pub Added : List Finding → Finding → Result (Unit {0}) RunFault → L
 Added fs f (Ok x) fs' = (length fs < 1000) × (fs' ≡ fs ++ (f ∷ []))
 Added fs f (Err y) fs' = (1000 ≤ length fs) × (fs' ≡ fs) × (y ≡ TooManyFindings)
 
--- the race of a declined event, none of an accepted one, or the fault of a refused one
-abbrev pub RaceOf : Answer → Result (Option Race) RuleFault → Type 0
-RaceOf (accepted s) r = r ≡ Ok None
-RaceOf (refused k) r = (f : RuleFault) × (r ≡ Err f) × (fault_number f ≡ k)
-RaceOf (declined p w) r = r ≡ Ok (Some (record { place = p; witness = w }))
-
 -- the event of number n, so answered, passes or halts the run
 abbrev pub Put : List Finding → ℕ → Answer → Result (Unit {0}) Cause → List Finding → Type 0
 Put fs n a (Ok x) fs' = Passes fs a × (fs' ≡ listed fs n a)
@@ -94,23 +87,18 @@ abbrev pub PutAt : List Finding → Site → Answer → Result (Unit {0}) Fault 
 PutAt fs at a (Ok x) fs' = Passes fs a × (fs' ≡ listed fs at.event a)
 PutAt fs at a (Err f) fs' = Halts fs a f.cause × (f.at ≡ at) × (fs' ≡ fs)
 
-module _ {K : Type 0} (live : K → Type 0) (meaning : K → Meaning) where
-  unfoldable pub Took : Run K → Event → Site → Result (Unit {0}) Fault → Run K → Type 0
+module _ {K : Type 0} {its : Ghosts K} where
+  unfoldable pub Took : Run K its → Event → Site → Result (Unit {0}) Fault → Run K its → Type 0
   Took s e at r t =
-      (rec : List Event) → Stands live meaning rec s.monitor → PutAt (vec_items s.findings.list) at (judge rec e) r (vec_items t.findings.list) × Stands live meaning (recorded rec e (judge rec e)) t.monitor
+      (rec : List Event) → Stands rec s.monitor → PutAt s.findings at (judge rec e) r t.findings × Stands (recorded rec e (judge rec e)) t.monitor
 
   -- the run comes to this outcome, and the monitor stands for the record after it
-  pub record CameTo (bytes : List ℕ) (p : Place) (rec : List Event) (fs : List Finding) (q : Place) (m : Monitor K) (fs' : List Finding) (end : Option Fault) : Type 0 where
+  pub record CameTo (bytes : List ℕ) (p : Place) (rec : List Event) (fs : List Finding) (q : Place) (m : Monitor K its) (fs' : List Finding) (end : Option Fault) : Type 0 where
     pub events : List Event
     pub rec' : List Event
     pub runs : Runs bytes p rec fs events (record { recorded_as = rec'; findings = fs'; end = end; place = q })
-    pub stands : Stands live meaning rec' m
+    pub stands : Stands rec' m
 
-  unfoldable pub RunOn : List ℕ → Place → Run K → Place → Run K → Option Fault → Type 0
+  unfoldable pub RunOn : List ℕ → Place → Run K its → Place → Run K its → Option Fault → Type 0
   RunOn bytes p s q t end =
-      (rec : List Event) → Stands live meaning rec s.monitor → CameTo bytes p rec (vec_items s.findings.list) q t.monitor (vec_items t.findings.list) end
-
--- the fault that ended a run, if one did
-abbrev pub ended : Result (Unit {0}) Fault → Option Fault
-ended (Ok x) = None
-ended (Err f) = Some f
+      (rec : List Event) → Stands rec s.monitor → CameTo bytes p rec s.findings q t.monitor t.findings end

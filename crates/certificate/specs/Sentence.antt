@@ -6,10 +6,11 @@
 --                          the reader was left, or that event was declined, for a race, when 1,000 findings were listed
 --   Sentence bytes p rec es o   what is said of the run of the events es from the place p and the record on, with no findings at first,
 --                          which came to the outcome o
-use Rattle.std.specs.Prelude.{◌≡◌, ℕ, ◌+◌, ◌≤◌, List, [], ◌∷◌, ◌++◌, reverse, length, Some, None, Ok, Err, vec_items, Option, Result}
+use Rattle.std.specs.Prelude.{◌≡◌, ℕ, ◌+◌, ◌≤◌, List, [], ◌∷◌, ◌++◌, reverse, length, Some, None, Ok, Err, Option, Result}
 use Rattle.std.specs.List.{AllByRecursion}
+use Rattle.std.specs.declared.alloc.AllocFailed.{AllocFailed}
 use Rattle.events.specs.declared.Event.{Event}
-use Rattle.keepers.specs.Meaning.{Meaning}
+use Rattle.keepers.specs.declared.keeper.Keeper.{Ghosts}
 use Rattle.order.specs.Judgement.{declined, refused}
 use Rattle.order.specs.Verdicts.{Right}
 use Rattle.roster.specs.Numbers.{fault_number}
@@ -52,13 +53,13 @@ pub record Sentence (bytes : List ℕ) (p : Place) (rec : List Event) (es : List
   -- a refusal has the first number that applies
   pub first : (f : Fault) → o.end ≡ Some f → EndsRightly bytes o f.cause
 
-module _ {K : Type 0} (live : K → Type 0) (meaning : K → Meaning) where
+module _ {K : Type 0} {its : Ghosts K} where
   -- a run with no findings at first comes to what the rules say, and that says this of the file
-  pub record Certified (bytes : List ℕ) (p : Place) (rec : List Event) (q : Place) (m : Monitor K) (fs : List Finding) (end : Option Fault) : Type 0 where
-    pub came : CameTo live meaning bytes p rec [] q m fs end
+  pub record Certified (bytes : List ℕ) (p : Place) (rec : List Event) (q : Place) (m : Monitor K its) (fs : List Finding) (end : Option Fault) : Type 0 where
+    pub came : CameTo bytes p rec [] q m fs end
     pub says : Sentence bytes p rec came.events (record { recorded_as = came.rec'; findings = fs; end = end; place = q })
 
   -- the run of a file by a monitor; without memory nothing happens
-  abbrev pub RanWhole : List ℕ → Place → Monitor K → Place → Result (Ran K) (Monitor K) → Type 0
-  RanWhole bytes p m q (Ok r) = (rec : List Event) → Stands live meaning rec m → Certified bytes p rec q r.monitor (vec_items r.findings.list) r.end
-  RanWhole bytes p m q (Err m') = (q ≡ p) × (m' ≡ m)
+  abbrev pub RanWhole : List ℕ → Place → Monitor K its → Place → Result (Ran K its) (AllocFailed (Monitor K its)) → Type 0
+  RanWhole bytes p m q (Ok r) = (rec : List Event) → Stands rec m → Certified bytes p rec q r.monitor r.findings r.end
+  RanWhole bytes p m q (Err e) = (q ≡ p) × (e.value ≡ m)

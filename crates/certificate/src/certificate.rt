@@ -3,7 +3,7 @@ ghost use Rattle.std.specs.Prelude.{IfOk, string_bytes};
 ghost use Rattle.certificate.specs.Certified.{Certifies, Agree};
 
 use crate::running::run_file;
-use crate::text::text_of;
+use crate::text::{Certificate, text_of};
 use keepers::Keeper;
 use monitor::Monitor;
 use std::alloc::{AllocError, Global};
@@ -18,10 +18,13 @@ pub fn certificate_of<K: Keeper + Drop>(
     ensures { IfOk result (λ t. Certifies bytes.now (string_bytes t)) }
 {
     let mut reader = Reader::new(bytes);
-    match run_file(heap, &mut reader, Monitor::start(keeper)) {
-        Ok(ran) => text_of(heap, ran.monitor.accepted(), &ran.findings, ran.end),
-        Err(_) => Err(AllocError),
-    }
+    let ran = run_file(heap, &mut reader, Monitor::start(keeper))?;
+    let certificate = Certificate {
+        accepted: ran.monitor.accepted(),
+        findings: ran.findings.as_slice(),
+        end: ran.end,
+    };
+    text_of(heap, &certificate)
 }
 
 // A file has one certificate, whatever keeper it is made with.

@@ -9,7 +9,7 @@ use trace::{Refusal, Site, TraceFault};
 // The run's own fault.
 #[derive(Clone, Copy, PartialEq, Eq, Debug)]
 pub enum RunFault {
-    TooManyFindings,
+    TooManyFindings = 11,
 }
 
 // A fault of the file, a refusal by the monitor, or a fault of the run.
@@ -62,7 +62,7 @@ impl Cause {
         match self {
             Cause::Trace(fault) => fault.number(),
             Cause::Monitor(fault) => fault.number(),
-            Cause::Run(RunFault::TooManyFindings) => 11,
+            Cause::Run(fault) => fault as u8,
         }
     }
 

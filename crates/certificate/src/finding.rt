@@ -1,5 +1,5 @@
 // What a run finds: a thousand declined events at most.
-ghost use Rattle.std.specs.Prelude.{◌≤◌, vec_capacity};
+use std::marker::Model;
 
 // A declined event by its number in the file, the place of its race and the witness's serial.
 #[derive(Clone, Copy, PartialEq, Eq, Debug)]
@@ -13,5 +13,15 @@ pub struct Finding {
 #[derive(Drop)]
 pub struct Findings {
     pub(crate) list: Vec<Finding>,
-    ghost room: { 1000 ≤ vec_capacity list },
+}
+
+impl Model for Findings {
+    ghost use Rattle.std.specs.Prelude.{◌≤◌, List, vec_capacity};
+    ghost use Rattle.certificate.specs.declared.finding.Finding.{Finding as AFinding};
+
+    ghost Value = { List AFinding };
+
+    ghost view = { λ f. f.list.items };
+
+    ghost invariant = { λ f. 1000 ≤ vec_capacity f.list };
 }

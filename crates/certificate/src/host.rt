@@ -1,56 +1,53 @@
-// The call for hosts in C.
-ghost use Rattle.std.specs.Prelude.{◌≡◌, ◌<◌, ◌≤◌, string_bytes};
-ghost use Rattle.certificate.specs.Host.{Written, HostAnswer, KindAnswer};
+// The call for hosts, in Rattle and in C.
+ghost use Rattle.certificate.specs.Host.{CertifiedInto, CertifiedAs, Placed, HostAnswer};
+ghost use Rattle.std.specs.Prelude.{string_bytes};
 
-use crate::certificate::certificate_of;
-use clocks::Clocks;
-use locksets::Locksets;
-use shortcut::ShortCut;
-use std::alloc::{AllocError, Global};
-
-// The text does not fit the buffer; there is no such kind of keeper; there is no memory.
-const NO_ROOM: i64 = -19;
-
-const NO_SUCH_KIND: i64 = -22;
-
-const NO_MEMORY: i64 = -100;
-
-// The certificate over the keeper of that kind, if there is one: locksets, clocks, or the short-cut layer over each.
-fn by_kind(heap: Global, trace: &[u8], kind: u32) -> Option<Result<String, AllocError>>
-    ensures { KindAnswer trace.now kind result }
-{
-    match kind {
-        1 => Some(certificate_of(heap, trace, Locksets::new())),
-        2 => Some(certificate_of(heap, trace, Clocks::new())),
-        3 => Some(certificate_of(heap, trace, ShortCut::new(Locksets::new()))),
-        4 => Some(certificate_of(heap, trace, ShortCut::new(Clocks::new()))),
-        _ => None,
-    }
-}
+use crate::call::{CallFault, KeeperKind};
+use std::alloc::Global;
 
 // Writes the text to the front of the buffer, if it fits.
-fn write_out(text: &String, out: &mut [u8]) -> i64
-    ensures { Written (string_bytes text.now) out.old out.new result }
+fn write_out(text: &String, out: &mut [u8]) -> Result<usize, CallFault>
+    ensures { Placed (string_bytes text.now) out.old out.new result }
 {
     let bytes = text.as_bytes();
-    let n = bytes.len();
-    if n > out.len() {
-        return NO_ROOM;
+    let length = bytes.len();
+    if length > out.len() {
+        return Err(CallFault::NoRoom);
     }
-    (&mut out[0..n]).copy_from_slice(bytes);
-    n as i64
+    out[..length].copy_from_slice(bytes);
+    Ok(length)
 }
 
-// Makes the certificate of the trace and writes it to the buffer. Kinds 1 and 2 are the keepers of locksets and of clocks,
-// 3 and 4 the short-cut layer over each. Answers the text's length, or -22 for another kind, -19 where the text does not
-// fit, -100 where there is no memory; a negative answer leaves the buffer as it was.
+// Makes the certificate of the trace over a keeper of the kind, writes it to the front of the buffer and answers its length.
+// The buffer stays as it was where the text does not fit and where there is no memory.
+pub fn certify_into(
+    heap: Global,
+    trace: &[u8],
+    kind: KeeperKind,
+    out: &mut [u8],
+) -> Result<usize, CallFault>
+    ensures { CertifiedInto trace.now out.old out.new result }
+{
+    let text = kind.certify(heap, trace)?;
+    write_out(&text, out)
+}
+
+// The same for the kind of that number, if there is one.
+fn certify_as(heap: Global, trace: &[u8], kind: u32, out: &mut [u8]) -> Result<usize, CallFault>
+    ensures { CertifiedAs trace.now kind out.old out.new result }
+{
+    certify_into(heap, trace, KeeperKind::try_from(kind)?, out)
+}
+
+// The same by numbers, for hosts in C. Kinds 1 and 2 are the keepers of locksets and of clocks, 3 and 4 the short-cut layer
+// over each. Answers the text's length, or -22 for another kind, -19 where the text does not fit, -100 where there is no
+// memory; a negative answer leaves the buffer as it was.
 #[unsafe(no_mangle)]
 pub extern "C" fn wickerheron_certify(heap: Global, trace: &[u8], kind: u32, out: &mut [u8]) -> i64
     ensures { HostAnswer trace.now kind out.old out.new result }
 {
-    match by_kind(heap, trace, kind) {
-        Some(Ok(text)) => write_out(&text, out),
-        Some(Err(_)) => NO_MEMORY,
-        None => NO_SUCH_KIND,
+    match certify_as(heap, trace, kind, out) {
+        Ok(length) => length as i64,
+        Err(fault) => fault.number(),
     }
 }

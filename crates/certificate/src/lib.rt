@@ -1,6 +1,7 @@
 // From a trace file to a certificate: the run, its text, and the call for C hosts.
 #![tactic(auto)]
 
+mod call;
 mod certificate;
 mod fault;
 mod finding;
@@ -10,10 +11,11 @@ mod run;
 mod running;
 mod text;
 
+pub use call::{CallFault, KeeperKind};
 pub use certificate::{certificate_of, certificates_agree};
 pub use fault::{Cause, Fault, RunFault};
 pub use finding::{Finding, Findings};
-pub use host::wickerheron_certify;
+pub use host::{certify_into, wickerheron_certify};
 pub use run::{Ran, Run};
 pub use running::run_file;
-pub use text::text_of;
+pub use text::{Certificate, text_of};

@@ -1,20 +1,30 @@
 // The text of a certificate.
-ghost use Rattle.std.specs.Prelude.{◌≡◌, true, ◌++◌, is_ok, IfOk, Some, string_bytes};
-ghost use Rattle.certificate.specs.Texts.{finding_text, fault_text, findings_text, last_text, first_text, text as whole_text};
+ghost use Rattle.std.specs.Prelude.{◌≡◌, IfOk, Some, string_bytes};
+ghost use Rattle.certificate.specs.Texts.{finding_text, fault_text, text as whole_text};
 
 use crate::fault::Fault;
-use crate::finding::{Finding, Findings};
+use crate::finding::Finding;
 use std::alloc::{AllocError, Global};
+use std::error::Error;
 use std::fmt;
+
+// What a certificate tells: how many events are accepted, the findings, and the fault that ended the run, if one did.
+#[derive(Clone, Copy, Debug)]
+pub struct Certificate<'a> {
+    pub accepted: u32,
+    pub findings: &'a [Finding],
+    pub end: Option<Fault>,
+}
 
 impl fmt::Display for Finding {
     ghost output = { λ f. Some (finding_text f) };
 
     fn fmt<W: fmt::Write>(&self, f: &mut fmt::Formatter<W>) -> fmt::Result {
-        let event = self.event;
-        let place = self.place;
-        let witness = self.witness;
-        write!(f, "event {event} place {place} witness {witness}")
+        write!(
+            f,
+            "event {} place {} witness {}",
+            self.event, self.place, self.witness
+        )
     }
 }
 
@@ -22,59 +32,37 @@ impl fmt::Display for Fault {
     ghost output = { λ f. Some (fault_text f) };
 
     fn fmt<W: fmt::Write>(&self, f: &mut fmt::Formatter<W>) -> fmt::Result {
-        let number = self.cause.number();
-        let section = self.at.section;
-        let event = self.at.event;
-        let byte = self.at.byte;
-        write!(
+        write!(f, "refused {} {}", self.cause.number(), self.at)
+    }
+}
+
+impl Error for Fault {}
+
+// The first line, a line for each finding, and the last line, which tells how the run ended.
+impl fmt::Display for Certificate<'_> {
+    ghost output = { λ c. Some (whole_text c.accepted c.findings.now c.end) };
+
+    fn fmt<W: fmt::Write>(&self, f: &mut fmt::Formatter<W>) -> fmt::Result {
+        writeln!(
             f,
-            "refused {number} section {section} event {event} byte {byte}"
-        )
+            "accepted {} declined {}",
+            self.accepted,
+            self.findings.len()
+        )?;
+        for finding in self.findings {
+            writeln!(f, "{finding}")?;
+        }
+        match (self.end, self.findings) {
+            (Some(fault), _) => writeln!(f, "{fault}"),
+            (None, []) => writeln!(f, "clean"),
+            (None, _) => writeln!(f, "not clean"),
+        }
     }
 }
 
-// The first line.
-fn first_line(heap: Global, accepted: u32, declined: usize) -> Result<String, AllocError>
-    ensures { IfOk result (λ t. string_bytes t ≡ first_text accepted declined) }
+// The whole text.
+pub fn text_of(heap: Global, certificate: &Certificate<'_>) -> Result<String, AllocError>
+    ensures { IfOk result (λ t. string_bytes t ≡ whole_text certificate.now.accepted certificate.now.findings.now certificate.now.end) }
 {
-    format!(in heap; "accepted {accepted} declined {declined}\n")
-}
-
-// Adds the line of each finding.
-fn add_findings(heap: Global, text: &mut String, findings: &[Finding]) -> Result<(), AllocError>
-    ensures { is_ok result ≡ true → string_bytes text.new ≡ string_bytes text.old ++ findings_text findings.now }
-{
-    for finding in findings {
-        let line = format!(in heap; "{finding}\n")?;
-        text.push_str(line.as_str())?;
-    }
-    Ok(())
-}
-
-// The last line.
-fn last_line(heap: Global, findings: &[Finding], end: Option<Fault>) -> Result<String, AllocError>
-    ensures { IfOk result (λ t. string_bytes t ≡ last_text findings.now end) }
-{
-    match (end, findings) {
-        (Some(fault), _) => format!(in heap; "{fault}\n"),
-        (None, []) => String::from_str(heap, "clean\n"),
-        (None, _) => String::from_str(heap, "not clean\n"),
-    }
-}
-
-// The whole text: how many events are accepted, the findings, and how the run ended.
-pub fn text_of(
-    heap: Global,
-    accepted: u32,
-    findings: &Findings,
-    end: Option<Fault>,
-) -> Result<String, AllocError>
-    ensures { IfOk result (λ t. string_bytes t ≡ whole_text accepted findings.now.list.items end) }
-{
-    let list = findings.list.as_slice();
-    let mut text = first_line(heap, accepted, list.len())?;
-    add_findings(heap, &mut text, list)?;
-    let last = last_line(heap, list, end)?;
-    text.push_str(last.as_str())?;
-    Ok(text)
+    format!(in heap; "{certificate}")
 }

@@ -3,6 +3,7 @@ use crate::files::written;
 use certificate::wickerheron_certify;
 use events::Action;
 use std::alloc::{AllocError, Global};
+use std::fmt;
 use std::str::from_utf8;
 
 // What the buffer holds before a call.
@@ -11,8 +12,11 @@ const BEFORE: u8 = 170;
 // More than the longest certificate has.
 pub(crate) const AMPLE: usize = 32_768;
 
-// The number that a call answers, and the buffer as it leaves it.
-#[derive(Drop)]
+// What a step of a file is: a thread, and what it does.
+pub(crate) type Step = (u8, Action);
+
+// The number that a call answers, as C sees it, and the buffer as the call leaves it.
+#[derive(PartialEq, Drop)]
 pub(crate) struct Answer {
     pub(crate) number: i64,
     out: Vec<u8>,
@@ -41,24 +45,21 @@ impl Answer {
     // Whether the bytes past the text are as they were.
     pub(crate) fn kept(&self) -> bool {
         let (_, rest) = self.parts();
-        for byte in rest {
-            if *byte != BEFORE {
-                return false;
-            }
-        }
-        true
+        rest.iter().all(|byte| *byte == BEFORE)
     }
+}
 
-    // The text, or the negative answer.
-    pub(crate) fn words(&self, heap: Global) -> Result<String, AllocError> {
+// The text, or the negative answer.
+impl fmt::Display for Answer {
+    fn fmt<W: fmt::Write>(&self, f: &mut fmt::Formatter<W>) -> fmt::Result {
         let number = self.number;
         if number < 0 {
-            return format!(in heap; "answer {number}\n");
+            return writeln!(f, "answer {number}");
         }
         let (text, _) = self.parts();
         match from_utf8(text) {
-            Ok(text) => String::from_str(heap, text),
-            Err(_) => format!(in heap; "{number} bytes that are no text\n"),
+            Ok(text) => f.write_str(text),
+            Err(_) => writeln!(f, "{number} bytes that are no text"),
         }
     }
 }
@@ -67,8 +68,7 @@ impl Answer {
 pub(crate) fn compare(rt: &HostRuntime, file: &[u8], first: &Answer) -> anyhow::Result<()> {
     let mut agree = first.kept();
     for kind in 2..5 {
-        let other = call(rt.alloc(), file, kind, AMPLE)?;
-        if other.number != first.number || other.out.as_slice() != first.out.as_slice() {
+        if call(rt.alloc(), file, kind, AMPLE)? != *first {
             println!(rt; "kind {kind} differs")?;
             agree = false;
         }
@@ -85,18 +85,22 @@ pub(crate) fn compare(rt: &HostRuntime, file: &[u8], first: &Answer) -> anyhow::
 // A file's certificate under its name.
 pub(crate) fn show(rt: &HostRuntime, name: &str, file: &[u8]) -> anyhow::Result<()> {
     let answer = call(rt.alloc(), file, 1, AMPLE)?;
-    let words = answer.words(rt.alloc())?;
-    print!(rt; "{name}:\n{words}")?;
+    print!(rt; "{name}:\n{answer}")?;
     compare(rt, file, &answer)
 }
 
 // The certificate of a file of events, in sections of so many.
-pub(crate) fn show_steps(
+pub(crate) fn show_sections(
     rt: &HostRuntime,
     name: &str,
     counts: &[usize],
-    steps: &[(u8, Action)],
+    steps: &[Step],
 ) -> anyhow::Result<()> {
     let file = written(rt.alloc(), counts, steps)?;
     show(rt, name, file.as_slice())
+}
+
+// The certificate of a file of events in one section.
+pub(crate) fn show_steps(rt: &HostRuntime, name: &str, steps: &[Step]) -> anyhow::Result<()> {
+    show_sections(rt, name, &[steps.len()], steps)
 }

@@ -1,19 +1,28 @@
 // Files that are refused as files, and refusals behind a finding or an empty section.
-use crate::calls::{show, show_steps};
+use crate::calls::{Step, show, show_sections, show_steps};
 use crate::files::{single, told};
 use crate::verdicts::RACE;
 use events::Action;
 
-const RELEASED: [(u8, Action); 2] = [
+const RELEASED: [Step; 2] = [
     (0, Action::Read { place: 5 }),
     (0, Action::Release { lock: 3 }),
 ];
 
-const DECLINED_FIRST: [(u8, Action); 4] = [
+const DECLINED_FIRST: [Step; 4] = [
     (0, Action::Fork { child: 1 }),
     (0, Action::Write { place: 5 }),
     (1, Action::Write { place: 5 }),
     (1, Action::Release { lock: 3 }),
+];
+
+// Files that end within the header or the contents, or whose header is no good.
+const BEGINNINGS: [(&str, &[u8]); 5] = [
+    ("no bytes", b""),
+    ("three bytes", &[1, 0, 0]),
+    ("contents cut", &[1, 0, 1, 0, 12, 0, 0, 0, 0, 0, 0]),
+    ("edition 2", &[2, 0, 0, 0]),
+    ("257 sections", &[1, 0, 1, 1]),
 ];
 
 // Refused before the first event.
@@ -21,11 +30,9 @@ pub(crate) fn before(rt: &HostRuntime) -> anyhow::Result<()> {
     let heap = rt.alloc();
     let long = vec![in heap; 0u8; 65_537]?;
     show(rt, "65537 bytes", long.as_slice())?;
-    show(rt, "no bytes", b"")?;
-    show(rt, "three bytes", &[1, 0, 0])?;
-    show(rt, "contents cut", &[1, 0, 1, 0, 12, 0, 0, 0, 0, 0, 0])?;
-    show(rt, "edition 2", &[2, 0, 0, 0])?;
-    show(rt, "257 sections", &[1, 0, 1, 1])?;
+    for (name, file) in BEGINNINGS {
+        show(rt, name, file)?;
+    }
     show(
         rt,
         "a body that begins late",
@@ -69,7 +76,7 @@ pub(crate) fn behind(rt: &HostRuntime) -> anyhow::Result<()> {
         "kind 10 behind a race",
         single(rt.alloc(), &body)?.as_slice(),
     )?;
-    show_steps(rt, "a release behind a race", &[4], &DECLINED_FIRST)?;
-    show_steps(rt, "behind an empty section", &[0, 2], &RELEASED)?;
-    show_steps(rt, "in the third section", &[1, 0, 1], &RELEASED)
+    show_steps(rt, "a release behind a race", &DECLINED_FIRST)?;
+    show_sections(rt, "behind an empty section", &[0, 2], &RELEASED)?;
+    show_sections(rt, "in the third section", &[1, 0, 1], &RELEASED)
 }

@@ -1,30 +1,24 @@
 // Files of events and files of bytes.
+use crate::calls::Step;
 use anyhow::anyhow;
-use events::{Action, Event};
+use events::Event;
 use std::alloc::{AllocError, Global};
-use trace::write;
-
-// As long as a file may be.
-const LONGEST: usize = 65_536;
+use trace::{LONGEST, write};
 
 // The file of these steps, each of a thread and what it does, in sections of so many.
-pub(crate) fn written(
-    heap: Global,
-    counts: &[usize],
-    steps: &[(u8, Action)],
-) -> anyhow::Result<Vec<u8>> {
-    let mut events = Vec::new(heap);
-    for (thread, action) in steps {
-        events.push(Event {
+pub(crate) fn written(heap: Global, counts: &[usize], steps: &[Step]) -> anyhow::Result<Vec<u8>> {
+    let events: Vec<Event> = steps
+        .iter()
+        .map(|(thread, action)| Event {
             thread: *thread,
             action: *action,
-        })?;
-    }
+        })
+        .collect(heap)?;
     let mut out = vec![in heap; 0u8; LONGEST]?;
-    match write(events.as_slice(), counts, out.as_mut_slice()) {
-        Ok(length) => out.truncate(length),
-        Err(_) => return Err(anyhow!("a file that was not written")),
-    }
+    let length = write(events.as_slice(), counts, out.as_mut_slice()).map_err(|_| anyhow!(
+        "a file that was not written"
+    ))?;
+    out.truncate(length);
     Ok(out)
 }
 

@@ -21,13 +21,9 @@ fn reads(heap: Global, declined: u32, accepted: u32) -> anyhow::Result<Vec<u8>> 
 
 // How many lines tell of a finding.
 fn findings(text: &str) -> usize {
-    let mut many: usize = 0;
-    for line in text.lines() {
-        if line.starts_with("event ") {
-            many = many.saturating_add(1);
-        }
-    }
-    many
+    text.lines()
+        .filter(|line| line.starts_with("event "))
+        .count()
 }
 
 // The first line, how many findings there are, the last line but one, and the last.
@@ -47,16 +43,18 @@ fn show_ends(rt: &HostRuntime, text: &str) -> anyhow::Result<()> {
 fn show_many(rt: &HostRuntime, declined: u32, accepted: u32) -> anyhow::Result<()> {
     let file = reads(rt.alloc(), declined, accepted)?;
     let answer = call(rt.alloc(), file.as_slice(), 1, AMPLE)?;
-    let words = answer.words(rt.alloc())?;
+    let text = format!(in rt.alloc(); "{answer}")?;
     println!(rt; "races {declined}, other reads {accepted}:")?;
-    show_ends(rt, words.as_str())?;
+    show_ends(rt, text.as_str())?;
     compare(rt, file.as_slice(), &answer)
 }
 
+// How many reads are declined, and how many accepted after them.
+const READS: [(u32, u32); 5] = [(999, 1), (1_000, 0), (1_000, 2), (1_001, 0), (1_002, 1)];
+
 pub(crate) fn declines(rt: &HostRuntime) -> anyhow::Result<()> {
-    show_many(rt, 999, 1)?;
-    show_many(rt, 1_000, 0)?;
-    show_many(rt, 1_000, 2)?;
-    show_many(rt, 1_001, 0)?;
-    show_many(rt, 1_002, 1)
+    for (declined, accepted) in READS {
+        show_many(rt, declined, accepted)?;
+    }
+    Ok(())
 }

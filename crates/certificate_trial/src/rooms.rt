@@ -24,8 +24,8 @@ pub(crate) fn rooms(rt: &HostRuntime) -> anyhow::Result<()> {
     let file = single(rt.alloc(), &RACE)?;
     let whole = call(rt.alloc(), file.as_slice(), 1, AMPLE)?;
     let (text, _) = whole.parts();
-    for (kind, room) in &CALLS {
-        let answer = call(rt.alloc(), file.as_slice(), *kind, *room)?;
+    for (kind, room) in CALLS {
+        let answer = call(rt.alloc(), file.as_slice(), kind, room)?;
         let number = answer.number;
         let (front, rest) = answer.parts();
         let held = match front.len() {

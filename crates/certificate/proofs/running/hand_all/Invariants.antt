@@ -1,4 +1,4 @@
-use Rattle.std.proofs.Common.{◌≡◌, ◌-◌, List, length, vec_items}
+use Rattle.std.proofs.Common.{◌≡◌, ◌-◌, List, length}
 use Rattle.events.specs.declared.Event.{Event}
 use Rattle.monitor.specs.Stands.{Stands}
 use Rattle.certificate.proofs.Onward.{Sofar}
@@ -8,7 +8,7 @@ use Rattle.certificate.proofs.running.hand_all.Given as goal
 abbrev pub invariant-loop : goal.invariant-loop
 invariant-loop g l =
     (l.reader.bytes.now ≡ l.initial.reader.bytes.now)
-    × ((rec : List Event) → Stands g.K.Keeper.live g.K.Keeper.meaning rec l.initial.run.monitor → Sofar g.K.Keeper.live g.K.Keeper.meaning l.initial.reader.bytes.now l.initial.reader.at rec (vec_items l.initial.run.findings.list) l.reader.at l.run)
+    × ((rec : List Event) → Stands rec l.initial.run.monitor → Sofar l.initial.reader.bytes.now l.initial.reader.at rec l.initial.run.findings l.reader.at l.run)
 
 abbrev pub decreases-loop : goal.decreases-loop
 decreases-loop g l = length l.initial.reader.bytes.now - l.reader.at.byte

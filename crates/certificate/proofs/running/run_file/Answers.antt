@@ -1,5 +1,5 @@
-use Rattle.std.proofs.Common.{[], vec_items, sym, subst}
-use Rattle.certificate.specs.Running.{CameTo, RunOn, ended}
+use Rattle.std.proofs.Common.{sym}
+use Rattle.certificate.specs.Running.{RunOn}
 use Rattle.certificate.proofs.Sentences.{sentence}
 use Rattle.certificate.proofs.running.run_file.Goals as goal
 
@@ -7,14 +7,11 @@ pub returns : goal.returns
 unfolding RunOn
 returns g c =
     let told = c.hand_all.ensures in
-    let t = c.hand_all.new.run in
-    let q = c.hand_all.new.reader.at in
+    let from = c.args.reader.now in
+    let none = c.in-Ok.ensures in
     record {
       run = λ rec stands.
-          let from = c.args.reader.now in
-          let came = told.run rec stands in
-          let none = subst (λ fs. CameTo g.K.Keeper.live g.K.Keeper.meaning from.bytes.now from.at rec fs q t.monitor (vec_items t.findings.list) (ended c.hand_all.result)) c.in-Ok.ensures came in
-          let came' = subst (CameTo g.K.Keeper.live g.K.Keeper.meaning from.bytes.now from.at rec [] q t.monitor (vec_items t.findings.list)) (sym c.fault_of-end.ensures) none in
-          record { came = came'; says = sentence from.bytes.now from.at rec came'.events _ stands.lawful stands.free came'.runs };
+          let came = rw (none, sym c.err-end.ensures.value) at (told.run rec stands) in
+          record { came = came; says = sentence from.bytes.now from.at rec came.events _ stands.lawful stands.free came.runs };
       bytes = told.bytes;
     }
