@@ -43,9 +43,6 @@ write_at q n p k y x place slot e =
 pub forget_next : (first i s x y : ℕ) → first ≤ i → s < 576 → y ≡ cond (leb first s && ltb s i) 0 x → cond (is_slot i && eqb s i) 0 y ≡ cond (leb first s && ltb s (i + 1)) 0 x
 forget_next first i s x y l r e = grind (arith, nat_tests)
 
-pub forget_nothing : (first s x : ℕ) → x ≡ cond (leb first s && ltb s first) 0 x
-forget_nothing first s x = grind (arith, nat_tests)
-
 -- what a commit makes of the serial x of slot k of one of its places
 abbrev pub at_place : ℕ → ℕ → ℕ → ℕ → ℕ → ℕ → ℕ
 at_place w u n p k x = cond (member w p) (cond (eqb k 0) n 0) (cond (eqb k (u + 1)) n x)

@@ -14,7 +14,8 @@ pub(crate) fn pass_in<K: Keeper>(keeper: &mut K, holders: Holders, thread: u8)
     }
 }
 
-// Passes from the thread to each holder.
+// Passes from the thread to each holder. One function that is told the way would say it in a test
+// or a closure at each pass, where two loops of one line do.
 pub(crate) fn pass_out<K: Keeper>(keeper: &mut K, holders: Holders, thread: u8)
     ensures { Made K.live K.meaning (passes_out thread (holders_left holders)) keeper.old keeper.new }
 {

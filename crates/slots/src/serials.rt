@@ -7,7 +7,8 @@ use keepers::SLOTS;
 
 #[derive(Drop)]
 pub struct Serials {
-    // 0 where the slot is empty: a row of `Option`s would take twice the memory
+    // 0 where the slot is empty, as in the theory: a row of `Option`s would take twice the memory,
+    // and `put` would have to tell 0 apart
     numbers: [u32; SLOTS],
 }
 
@@ -33,6 +34,7 @@ impl Serials {
     pub(crate) fn put(&mut self, slot: usize, serial: u32)
         ensures { (s : ℕ) → number_at self.new s ≡ (if is_slot slot && s == slot then serial else number_at self.old s) }
     {
+        // by index, since after a `get_mut` a proof knows none of the array's numbers
         if slot < SLOTS {
             self.numbers[slot] = serial;
         }

@@ -1,41 +1,20 @@
 use Rattle.std.proofs.Common.{◌+◌, ◌*◌, sym, ap, ◌∙◌, arith}
-use Rattle.order.specs.Work.{accesses}
 use Rattle.slots.specs.Made.{made}
 use Rattle.slots.specs.Serials.{serial_at}
 use Rattle.slots.proofs.Accesses.{read_ruled, write_ruled, allocate_ruled, commit_ruled, Inert, no_accesses, inert_ruled}
 use Rattle.slots.proofs.table.Slots.access.Goals as goal
 
-pub returns-in-Read : goal.returns-in-Read
-returns-in-Read g c = record {
-  keeper = λ live.
-      let after = c.read.ensures.keeper live in
-      (after.0, after.1 ∙ ap (λ a. made (accesses c.args.event.thread a) (g.K.Keeper.meaning c.args.self.now.keeper)) (sym c.in-Read.is));
-  serials = λ p k a b. c.read.ensures.serials p k a b ∙ read_ruled c.args.event p k c.args.serial (serial_at c.args.self.now.serials p k) c.in-Read.place c.in-Read.is;
-}
+pub returns-in-Read-clause-serials : goal.returns-in-Read-clause-serials
+returns-in-Read-clause-serials g c p k a b = c.read.ensures.serials p k a b ∙ read_ruled c.args.event p k c.args.serial (serial_at c.args.self.now.serials p k) c.in-Read.place c.in-Read.is
 
-pub returns-in-Write : goal.returns-in-Write
-returns-in-Write g c = record {
-  keeper = λ live.
-      let after = c.write.ensures.keeper live in
-      (after.0, after.1 ∙ ap (λ a. made (accesses c.args.event.thread a) (g.K.Keeper.meaning c.args.self.now.keeper)) (sym c.in-Write.is));
-  serials = λ p k a b. c.write.ensures.serials p k a b ∙ write_ruled c.args.event p k c.args.serial (serial_at c.args.self.now.serials p k) c.in-Write.place c.in-Write.is;
-}
+pub returns-in-Write-clause-serials : goal.returns-in-Write-clause-serials
+returns-in-Write-clause-serials g c p k a b = c.write.ensures.serials p k a b ∙ write_ruled c.args.event p k c.args.serial (serial_at c.args.self.now.serials p k) c.in-Write.place c.in-Write.is
 
-pub returns-in-Allocate : goal.returns-in-Allocate
-returns-in-Allocate g c = record {
-  keeper = λ live.
-      let after = c.forget.ensures.keeper live in
-      (after.0, after.1 ∙ ap (λ a. made (accesses c.args.event.thread a) (g.K.Keeper.meaning c.args.self.now.keeper)) (sym c.in-Allocate.is));
-  serials = λ p k a b. c.forget.ensures.serials (9 * p + k) (omega arith) ∙ allocate_ruled c.args.event p k c.args.serial (serial_at c.args.self.now.serials p k) c.in-Allocate.object c.in-Allocate.is b;
-}
+pub returns-in-Allocate-clause-serials : goal.returns-in-Allocate-clause-serials
+returns-in-Allocate-clause-serials g c p k a b = c.forget.ensures.serials (9 * p + k) (omega arith) ∙ allocate_ruled c.args.event p k c.args.serial (serial_at c.args.self.now.serials p k) c.in-Allocate.object c.in-Allocate.is b
 
-pub returns-in-Commit : goal.returns-in-Commit
-returns-in-Commit g c = record {
-  keeper = λ live.
-      let after = c.commit.ensures.keeper live in
-      (after.0, after.1 ∙ ap (λ a. made (accesses c.args.event.thread a) (g.K.Keeper.meaning c.args.self.now.keeper)) (sym c.in-Commit.is));
-  serials = λ p k a b. c.commit.ensures.serials p k a b ∙ commit_ruled c.args.event p k c.args.serial (serial_at c.args.self.now.serials p k) c.in-Commit.reads c.in-Commit.writes c.in-Commit.is;
-}
+pub returns-in-Commit-clause-serials : goal.returns-in-Commit-clause-serials
+returns-in-Commit-clause-serials g c p k a b = c.commit.ensures.serials p k a b ∙ commit_ruled c.args.event p k c.args.serial (serial_at c.args.self.now.serials p k) c.in-Commit.reads c.in-Commit.writes c.in-Commit.is
 
 pub returns-in_default : goal.returns-in_default
 returns-in_default g c =

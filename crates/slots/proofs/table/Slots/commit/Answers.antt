@@ -58,14 +58,3 @@ loop-place-preserved g c =
           ∙ sym (ap (λ ps. cond (has ps p) (at_place w t n p k x) x) c.in-Some.ensures.steps)
           ∙ c.loop-place.invariant.1 p k a b,
     )
-
-pub returns : goal.returns
-returns g c =
-    let t = c.args.step.thread in
-    let n = c.args.step.serial in
-    let w = c.args.writes.word in
-    let none = c.in-None.ensures.steps.0 in
-    record {
-      keeper = λ live. let inv = c.loop-place.invariant.0 live in (inv.0, sym (ap (λ ps. made (commits t w ps) (g.K.Keeper.meaning c.loop-place.self.keeper)) none) ∙ inv.1);
-      serials = λ p k a b. let x = serial_at c.loop-place.self.serials p k in sym (ap (λ ps. cond (has ps p) (at_place w t n p k x) x) none) ∙ c.loop-place.invariant.1 p k a b;
-    }

@@ -4,15 +4,8 @@ use Rattle.order.specs.Work.{forget_from}
 use Rattle.slots.specs.Made.{made}
 use Rattle.slots.specs.Serials.{number_at}
 use Rattle.slots.proofs.Calls.{forget_more, forget_ends}
-use Rattle.slots.proofs.Accesses.{forget_next, forget_nothing}
+use Rattle.slots.proofs.Accesses.{forget_next}
 use Rattle.slots.proofs.table.Slots.forget.Goals as goal
-
-pub loop-slot-init : goal.loop-slot-init
-loop-slot-init g c =
-    let all : c.args.first + c.args.count - c.args.first ≡ c.args.count = omega arith in (
-      λ live. (live, ap (λ n. made (forget_from n c.args.first) (g.K.Keeper.meaning c.args.self.now.keeper)) all),
-      λ s _. forget_nothing c.args.first s (number_at c.args.self.now.serials s),
-    )
 
 pub loop-slot-preserved : goal.loop-slot-preserved
 loop-slot-preserved g c =

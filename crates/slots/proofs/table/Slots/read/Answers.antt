@@ -5,14 +5,12 @@ use Rattle.slots.specs.Serials.{serial_at}
 use Rattle.slots.proofs.Accesses.{read_at, read_past}
 use Rattle.slots.proofs.table.Slots.read.Goals as goal
 
-pub returns-then-step-ge-THREADS : goal.returns-then-step-ge-THREADS
-returns-then-step-ge-THREADS g c =
-    let q = c.args.place in
-    let u = c.args.step.thread in
-    record {
-      keeper = λ live. (live, sym (begun_same (g.K.Keeper.meaning c.args.self.now.keeper) (9 * q + (u + 1)) u (λ _ l. omega arith)));
-      serials = λ p k a b. sym (read_past q u c.args.step.serial p k (serial_at c.args.self.now.serials p k) (omega arith) b);
-    }
+pub returns-then-step-ge-THREADS-clause-keeper : goal.returns-then-step-ge-THREADS-clause-keeper
+returns-then-step-ge-THREADS-clause-keeper g c live =
+    (live, sym (begun_same (g.K.Keeper.meaning c.args.self.now.keeper) (9 * c.args.place + (c.args.step.thread + 1)) c.args.step.thread (λ _ l. omega arith)))
+
+pub returns-then-step-ge-THREADS-clause-serials : goal.returns-then-step-ge-THREADS-clause-serials
+returns-then-step-ge-THREADS-clause-serials g c p k a b = sym (read_past c.args.place c.args.step.thread c.args.step.serial p k (serial_at c.args.self.now.serials p k) (omega arith) b)
 
 pub invariant_of-self : goal.invariant_of-self
 invariant_of-self g c = record { lives = ∥∥₁_map c.args.self.now.lives c.begin.ensures.lives }
