@@ -5,11 +5,11 @@ ghost use Rattle.clocks.specs.Kept.{clock_at, moved, clocks_mean, Running, Start
 
 use crate::vector::{ClockVector, Epoch};
 use keepers::{
-    Keeper, KeeperFault, SLOTS, THREADS, check_ask, check_begin, check_forget, check_pass,
+    HOLDERS, Keeper, KeeperFault, SLOTS, THREADS, check_ask, check_begin, check_forget, check_pass,
 };
 
 // As many as there are holders.
-pub const CLOCKS: usize = 136;
+pub const CLOCKS: usize = HOLDERS as usize;
 
 #[derive(Drop)]
 pub struct Clocks {
@@ -57,7 +57,8 @@ impl Clocks {
     }
 }
 
-// While live, a thread's own count is ahead of what every other holder has heard of it.
+// While live, a thread's own count is ahead of what every other holder has heard of it. As a ghost
+// field this would be no plainer: it stands in no contract here but by `live`, which the trait asks for.
 impl Keeper for Clocks {
     ghost meaning = { clocks_mean };
 
