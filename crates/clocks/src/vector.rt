@@ -39,7 +39,8 @@ impl ClockVector {
         epoch.count <= self.count(epoch.thread)
     }
 
-    // Takes over whatever the other has heard: the larger count of each thread.
+    // Takes over whatever the other has heard: the larger count of each thread. Not by `zip`, which
+    // leaves a proof nothing of the counts that were written.
     pub fn join(&mut self, other: &ClockVector)
         ensures { (t : ℕ) → count_at self.new t ≡ max (count_at self.old t) (count_at other.now t) }
     {
@@ -48,7 +49,8 @@ impl ClockVector {
         }
     }
 
-    // Moves the count of the thread on by one; a number that is no thread has none to move.
+    // Moves the count of the thread on by one; a number that is no thread has none to move. By index,
+    // since `get_mut` leaves a proof nothing of the other counts.
     pub fn tick(&mut self, thread: u8)
         ensures { (t : ℕ) → count_at self.new t ≡ (if is_thread t && t == thread then min (count_at self.old t + 1) (2 ^ 32 - 1) else count_at self.old t) }
     {

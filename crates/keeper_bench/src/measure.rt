@@ -36,12 +36,16 @@ fn passes<K: Keeper>(keeper: &mut K, how_many: u64) {
     }
 }
 
-// How many were answered yes, so that no question can be left out.
-fn asks<K: Keeper>(keeper: &K) -> usize {
-    (0..ASKS)
-        .map(scrambled)
-        .filter(|number| keeper.ask(slot_of(*number), holder_of(*number >> 8)) == Ok(true))
-        .count()
+// How many were answered yes, so that no question can be left out. A loop: with `filter` and `count`
+// the questions of locksets take more than twice the time.
+fn asks<K: Keeper>(keeper: &K) -> u64 {
+    let mut yes: u64 = 0;
+    for number in (0..ASKS).map(scrambled) {
+        if keeper.ask(slot_of(number), holder_of(number >> 8)) == Ok(true) {
+            yes = yes.saturating_add(1);
+        }
+    }
+    yes
 }
 
 // How many calls a second.

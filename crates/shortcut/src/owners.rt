@@ -25,7 +25,8 @@ impl OwnerTable {
         self.owners.get(slot).copied().flatten()
     }
 
-    // Writes what is remembered of the slot, if it is in range.
+    // Writes what is remembered of the slot, if it is in range. By index, since `get_mut` leaves a
+    // proof nothing of the other owners.
     fn write(&mut self, slot: usize, owner: Option<u8>)
         ensures { (s : ℕ) → owner_at self.new s ≡ rewritten self.old slot owner s }
     {
