@@ -66,7 +66,7 @@ impl Cause {
         }
     }
 
-    // The layer that the fault comes from: 1 the file, 2 the monitor, 3 the run.
+    // The layer that the fault comes from, by the number that the rules fix: 1 the file, 2 the monitor, 3 the run.
     pub fn layer(self) -> u8
         ensures { result ≡ layer_of self }
     {

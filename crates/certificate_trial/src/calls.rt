@@ -12,10 +12,10 @@ const BEFORE: u8 = 170;
 // More than the longest certificate has.
 pub(crate) const AMPLE: usize = 32_768;
 
-// What a step of a file is: a thread, and what it does.
+// A thread and what it does. An `Event` says the same; its fields' names would make the tables no plainer.
 pub(crate) type Step = (u8, Action);
 
-// The number that a call answers, as C sees it, and the buffer as the call leaves it.
+// The number that the call for C answers, and the buffer as the call leaves it. Kinds and answers are numbers there.
 #[derive(PartialEq, Drop)]
 pub(crate) struct Answer {
     pub(crate) number: i64,

@@ -1,8 +1,8 @@
 // Files that are refused as files, and refusals behind a finding or an empty section.
 use crate::calls::{Step, show, show_sections, show_steps};
-use crate::files::{single, told};
 use crate::verdicts::RACE;
 use events::Action;
+use handmade::{single, told};
 
 const RELEASED: [Step; 2] = [
     (0, Action::Read { place: 5 }),

@@ -1,9 +1,9 @@
 // Buffers of several lengths, and kinds of keeper that there are not.
 use crate::calls::{AMPLE, call};
-use crate::files::single;
 use crate::verdicts::RACE;
+use handmade::single;
 
-// The kind and the room of each call; the text has 58 bytes.
+// The kind, by the number that C gives it, and the room of each call; the text has 58 bytes.
 const CALLS: [(u32, usize); 12] = [
     (1, 58),
     (2, 58),

@@ -1,7 +1,7 @@
 // Files whose last event the monitor refuses, a file for each rule.
 use crate::calls::{Step, show, show_steps};
-use crate::files::single;
 use events::Action;
+use handmade::single;
 
 const READ: Step = (0, Action::Read { place: 63 });
 

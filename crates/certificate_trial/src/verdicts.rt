@@ -1,7 +1,7 @@
 // Files that are read to their end.
 use crate::calls::{Step, show, show_sections, show_steps};
-use crate::files::single;
 use events::{Action, PlaceSet};
+use handmade::single;
 
 // The body of a file with one race: 0 forks 1 and writes place 5, 1 writes it, 0 writes it.
 pub(crate) const RACE: [u8; 12] = [6, 0, 1, 1, 0, 5, 1, 1, 5, 1, 0, 5];
