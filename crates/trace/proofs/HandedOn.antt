@@ -44,11 +44,6 @@ kept_place (Err f) at stay goes t q r stays h = h.2 ∙ sym (stays (λ e g. absu
 kept_place (Ok None) at stay goes t q r stays h = h.2 ∙ sym (stays (λ e g. absurd (let z : ◌≡◌ {A = ℕ} 0 1 = cc in omega arith)))
 kept_place (Ok (Some e)) at stay goes t q r stays h = h.3 ∙ ap (λ x. cond (is_ok x) goes stay) h.1.0
 
-kept_ok : (o : Result (Option Event) Refusal) (at : Site) (stay goes : Place) (t : Option Event) (q : Place) (b : Bool) → HandedAs Keeps Same o at stay goes None t q (Ok b) → o ≡ Ok t
-kept_ok (Err f) at stay goes t q b h = absurd h.0
-kept_ok (Ok None) at stay goes t q b h = ap Ok (sym h.1)
-kept_ok (Ok (Some e)) at stay goes t q b h = ap Ok (sym h.1.1)
-
 kept_err : (o : Result (Option Event) Refusal) (at : Site) (stay goes : Place) (t : Option Event) (q : Place) (f : Refusal) → HandedAs Keeps Same o at stay goes None t q (Err f) → o ≡ Err f
 kept_err (Err g) at stay goes t q f h = ap Err (sym h.0)
 kept_err (Ok None) at stay goes t q f h = absurd (let g = h.0 in let z : ◌≡◌ {A = ℕ} 0 1 = cc in omega arith)
@@ -58,9 +53,6 @@ kept_err (Ok (Some e)) at stay goes t q f h = absurd (let g = h.2 ∙ ap answere
 module _ (bytes : List ℕ) (p q : Place) (t : Option Event) where
   pub next_place : (r : Result Bool Refusal) → Handed Keeps Same bytes p None t q r → q ≡ after bytes p
   next_place r h = kept_place (next bytes p) (site bytes (inside bytes p)) (inside bytes p) (after bytes p) t q r (after_stays bytes p) h
-
-  pub next_ok : (b : Bool) → Handed Keeps Same bytes p None t q (Ok b) → next bytes p ≡ Ok t
-  next_ok b h = kept_ok (next bytes p) (site bytes (inside bytes p)) (inside bytes p) (after bytes p) t q b h
 
   pub next_err : (f : Refusal) → Handed Keeps Same bytes p None t q (Err f) → next bytes p ≡ Err f
   next_err f h = kept_err (next bytes p) (site bytes (inside bytes p)) (inside bytes p) (after bytes p) t q f h

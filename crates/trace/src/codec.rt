@@ -1,4 +1,4 @@
-// One event as bytes.
+// One event as bytes. A place in the file goes with the file's bytes, and no shorter slice, since a refusal names the place.
 ghost use Rattle.std.specs.Prelude.{◌≡◌, ◌+◌, ◌<◌, ◌≤◌, true, length, is_ok, slice_index};
 ghost use Rattle.trace.specs.Codec.{size, set_at, action_at, event_at};
 ghost use Rattle.trace.specs.Kinds.{code};

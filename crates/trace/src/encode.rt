@@ -7,6 +7,7 @@ ghost use Rattle.trace.specs.File.{body, contents};
 ghost use Rattle.trace.specs.Sheets.{Room, Adds};
 
 use crate::kind::Kind;
+use crate::layout::EDITION;
 use crate::sheet::Sheet;
 use events::{Action, Event};
 
@@ -32,8 +33,7 @@ impl Sheet<'_> {
         requires { Room self.old 4 }
         ensures { Adds self.old (bytes_of 2 1 ++ bytes_of 2 sections) self.new }
     {
-        let edition: u16 = 1;
-        self.put(&edition.to_le_bytes());
+        self.put(&EDITION.to_le_bytes());
         self.put(&sections.to_le_bytes());
     }
 

@@ -7,13 +7,13 @@ ghost use Rattle.trace.specs.Layout.{count, entry_offset, entry_length, body_end
 use crate::fault::{Refusal, Site, TraceFault};
 use crate::words::chunk;
 
-/// The most bytes that a trace file may have.
+// The most bytes that a trace file may have.
 pub const LONGEST: usize = 65_536;
 
-/// The edition of the format that is read and written.
+// The edition of the format that is read and written.
 pub(crate) const EDITION: u16 = 1;
 
-/// The most sections that a trace file may have.
+// The most sections that a trace file may have.
 pub(crate) const MOST_SECTIONS: usize = 256;
 
 // A refusal before the first event.

@@ -1,7 +1,8 @@
 // Where a reader stands, and the guard that takes it back from an event that is refused.
 ghost use Rattle.std.specs.Prelude.{◌≡◌, unwrap_or};
 
-// The section of the last event taken (0 before the first), how many events were taken, and the next byte.
+// The section of the last event taken (0 before the first), how many events were taken, and the next byte, which is 0 before
+// the file is opened: what `Reader::place` answers is promised number by number, so there is no Option here.
 #[derive(Clone, Copy, PartialEq, Eq, Debug)]
 pub struct Place {
     pub section: usize,

@@ -2,7 +2,7 @@
 ghost use Rattle.std.specs.Prelude.{length};
 ghost use Rattle.trace.specs.Sheets.{Room, Adds};
 
-// The buffer, and where the next bytes go.
+// The buffer, and where the next bytes go: it is the caller's, of any length, since the writer takes no heap.
 #[derive(Drop)]
 pub(crate) struct Sheet<'a> {
     pub(crate) out: &'a mut [u8],

@@ -13,7 +13,7 @@ use std::alloc::{AllocError, Global};
 use std::error::Error;
 use std::fmt;
 
-// Events, and how many of them each section has.
+// Events, and how many of them each section has: one list of all events, as `write` takes them, and not one for each section.
 #[derive(Drop)]
 pub struct Trace {
     pub events: Vec<Event>,

@@ -1,7 +1,6 @@
-use Rattle.std.proofs.Common.{◌≡◌, ◌-◌, ◌<◌, length, is_ok, None, Err, vec_items, sym, ap, ◌∙◌, subst, arith}
+use Rattle.std.proofs.Common.{◌≡◌, ◌-◌, ◌<◌, is_ok, None, Err, vec_items, sym, ap, ◌∙◌, subst, arith}
 use Rattle.std.proofs.ResultArms.{chosen}
 use Rattle.std.proofs.ByRecursion.{All-from_get_or}
-use Rattle.std.proofs.lemmas.List.{length-append}
 use Rattle.std.proofs.lemmas.Result.{err_from_is_err_and}
 use Rattle.trace.specs.Layout.{count, body_end, opening}
 use Rattle.trace.specs.Reading.{origin, sections_or, inside}
@@ -58,14 +57,6 @@ returns-in_err-take_section c =
     let q' = c.take_section.new.self.at in
     let section = subst (λ b. SectionRead b c.loop-section.section q q' (vec_items c.loop-section.events) (vec_items c.take_section.new.events) (Err y)) inv.0 c.in_err-take_section.ensures.section in
     subst (WholeRead bs) (sym (p.1 ∙ ap Err p.2)) (whole_fails bs c.loop-section.section q q' (vec_items c.loop-section.counts) (vec_items c.loop-section.events) (vec_items c.loop-section.events) (vec_items c.take_section.new.events) first.0 inv.2 y section)
-
-pub overflow_sub-len : goal.overflow_sub-len
-overflow_sub-len c =
-    let section = c.in_ok-take_section.ensures.section.2 in
-    let old = c.loop-section.events.ok.0 in
-    let all = c.take_section.new.events.ok.0 in
-    let long = ap length section.1 ∙ length-append (vec_items c.loop-section.events) section.0 in
-    omega (arith, c.len-before.ensures, c.len.ensures)
 
 pub loop-section-preserved : goal.loop-section-preserved
 loop-section-preserved c =

@@ -1,7 +1,7 @@
 use Rattle.std.proofs.Common.{Err, sym, ap, ◌∙◌}
 use Rattle.std.proofs.lemmas.Result.{err_from_is_err_and}
 use Rattle.trace.proofs.Answered.{next_rule}
-use Rattle.trace.proofs.HandedOn.{next_place, next_ok, next_err}
+use Rattle.trace.proofs.HandedOn.{next_place, next_err}
 use Rattle.trace.proofs.reader.Reader.next.Goals as goal
 
 pub returns-in_err-hand : goal.returns-in_err-hand
@@ -13,17 +13,6 @@ returns-in_err-hand c =
     record {
       answer = answer;
       rule = next_rule self.bytes.now self.at c.from_residual.result self.stands answer;
-      place = next_place self.bytes.now self.at c.hand.new.self.at c.hand.new.taker _ handed;
-      bytes = c.hand.ensures.bytes;
-    }
-
-pub returns : goal.returns
-returns c =
-    let self = c.args.self.now in
-    let handed = c.in_ok-hand.ensures.handed in
-    record {
-      answer = sym (next_ok self.bytes.now self.at c.hand.new.self.at c.hand.new.taker _ handed);
-      rule = tt;
       place = next_place self.bytes.now self.at c.hand.new.self.at c.hand.new.taker _ handed;
       bytes = c.hand.ensures.bytes;
     }
