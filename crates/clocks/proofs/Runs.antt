@@ -10,9 +10,6 @@ use Rattle.clocks.specs.Kept.{reached, joined, moved, Run}
 use Rattle.clocks.specs.declared.vector.Epoch.{Epoch}
 
 module _ (f : ℕ → ℕ → ℕ) (a b : ℕ) where
-  joined_here : (t : ℕ) → joined f a b b t ≡ max (f b t) (f a t)
-  joined_here t = cond-true (eqb b b) (max (f b t) (f a t)) (f b t) (eq-eqb b b refl)
-
   joined_other : (h t : ℕ) → (h ≡ b → ⊥) → joined f a b h t ≡ f h t
   joined_other h t n = cond-false (eqb h b) (max (f b t) (f a t)) (f h t) (ne_eqb h b n)
 

@@ -98,6 +98,6 @@ fn how_many<F: Fn(usize, u8) -> bool>(test: F) -> usize
     requires { F.IsAlwaysCallable test }
 {
     (0..=SLOTS)
-        .map(|slot| { (0..=HOLDERS).filter(|holder| test(slot, *holder)).count() })
+        .map(|slot| (0..=HOLDERS).filter(|holder| test(slot, *holder)).count())
         .fold(0, |all: usize, some| all.saturating_add(some))
 }
