@@ -59,8 +59,8 @@ impl<'a> Reader<'a> {
         Ok(section_count(self.bytes))
     }
 
-    // Where the body of a section ends. That the file is opened is asked here and below, and is in no type: a reader is made
-    // before its file is opened, and making one cannot fail.
+    // Where the body of a section ends. That the file is opened is asked here and below, and is in no type: a result that holds
+    // a borrowed reader with facts in its type, as opening would answer it, gets no generated proof today.
     pub(crate) fn section_end(&self, section: usize) -> usize
         requires { (0 < self.now.at.byte) × ((0 < section) × (section ≤ count self.now.bytes.now)) }
         ensures { result ≡ body_end self.now.bytes.now section }
