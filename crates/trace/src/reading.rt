@@ -76,12 +76,13 @@ impl<'a> Reader<'a> {
         ensures value { result ≡ section_at self.now.bytes.now self.now.at.byte }
     {
         let sections = section_count(self.bytes);
-        for section in self.at.section.max(1)..sections {
-            if self.at.byte < self.section_end(section) {
-                return section;
-            }
-        }
-        sections
+        (self.at.section.max(1)..sections)
+            .find(
+                |&section|
+                    requires { (0 < self.now.at.byte) × ((0 < section) × (section ≤ count self.now.bytes.now)) }
+                { self.at.byte < self.section_end(section) },
+            )
+            .unwrap_or(sections)
     }
 
     // The next event, if there is one. Only an event that is taken moves a reader inside the file.
