@@ -25,5 +25,6 @@ pub enum Action {
     Fork { child: u8 },
     Join { child: u8 },
     Allocate { object: u8 },
+    // This case is the struct of the two sets. Every definition tells them apart, so one more type round them is no plainer.
     Commit { reads: PlaceSet, writes: PlaceSet },
 }

@@ -4,10 +4,7 @@
 use anyhow::anyhow;
 use events::Event;
 use std::io::Read;
-use trace::{LONGEST, Place, ReadError, Reader, Refusal, Trace, read_whole, write};
-
-// One byte more than a file may have shows that it is longer.
-const ENOUGH: u64 = LONGEST as u64 + 1;
+use trace::{ENOUGH, Place, ReadError, Reader, Refusal, Trace, read_whole, write};
 
 // The headings of the sections after `last`, up to `section`.
 fn headings(rt: &HostRuntime, last: usize, section: usize) -> anyhow::Result<()> {
@@ -39,7 +36,8 @@ fn list(rt: &HostRuntime, bytes: &[u8]) -> anyhow::Result<()> {
         Err(refusal) => return refusal_line(rt, refusal),
     };
     let mut last = 0;
-    // no event has fewer bytes than one, so this is enough; a loop with no such bound would want a measure
+    // no event has fewer bytes than one, so this is enough; a loop with no such bound would need a proof file for its measure,
+    // and this program has none
     for _ in 0..bytes.len() {
         let before = reader.place();
         match reader.next() {
@@ -49,7 +47,7 @@ fn list(rt: &HostRuntime, bytes: &[u8]) -> anyhow::Result<()> {
                 event_line(rt, at, before.byte, event)?;
                 last = at.section;
             }
-            Ok(None) => return headings(rt, last, sections),
+            Ok(None) => break,
             Err(refusal) => {
                 headings(rt, last, refusal.at.section)?;
                 return refusal_line(rt, refusal);

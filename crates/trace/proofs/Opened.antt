@@ -1,5 +1,5 @@
 -- What is known of a file that opens: where its bodies end, and which section holds a byte. Assumes nothing.
-use Rattle.std.proofs.Common.{◌≡◌, ℕ, zero, suc, ◌+◌, ◌-◌, ◌*◌, ◌<◌, ◌≤◌, Bool, true, false, cond, eqb, leb, List, length, is_some, Some, None, Option, sym, refl, ap, ◌∙◌, subst, ⊎_elim, add-one, arith}
+use Rattle.std.proofs.Common.{◌≡◌, ℕ, zero, suc, ◌+◌, ◌-◌, ◌*◌, ◌<◌, ◌≤◌, Bool, true, false, cond, eqb, leb, List, length, is_some, Some, None, Option, MatchOption, unwrap_or, sym, refl, ap, ◌∙◌, subst, ⊎_elim, add-one, arith}
 use Rattle.std.proofs.lemmas.Bool.{cond_both, true≢false, and_parts, not-false, eqb-true, leb-true, ltb-false, le-leb, lt-leb, cases_lt}
 use Rattle.trace.specs.declared.place.Place.{Place}
 use Rattle.trace.specs.Codec.{size}
@@ -118,6 +118,16 @@ section_is bytes s b some few low high =
     let all = ended_above bytes m (count bytes - m) b low (subst (λ n. b < body_end bytes n) (sym e) high) in
     let all' = subst (λ n. ended bytes n b ≡ m) f all in
     omega arith
+
+-- the first section from `first` on that ends behind b, or else the last one, holds b, where the section before `first` has ended
+pub first_behind : {bytes : List ℕ} (file : Opened bytes) (b first : ℕ) (r : Option ℕ) → 0 < first → body_end bytes (first - 1) ≤ b → b < length bytes → MatchOption r ((k : ℕ) → first ≤ k → k < count bytes → body_end bytes k ≤ b) (λ s. (first ≤ s) × (s < count bytes) × (b < body_end bytes s) × ((k : ℕ) → first ≤ k → k < s → body_end bytes k ≤ b)) → (0 < unwrap_or r (count bytes)) × (unwrap_or r (count bytes) ≤ count bytes) × (body_end bytes (unwrap_or r (count bytes) - 1) ≤ b) × (b < body_end bytes (unwrap_or r (count bytes)))
+first_behind {bytes} file b first None some low inside ended =
+    let few : first - 1 < count bytes = ⊎_elim (λ few. few) (λ many. absurd (let e = ends_ordered bytes (count bytes) (first - 1) many in omega (arith, file.whole))) (cases_lt (first - 1) (count bytes)) in
+    let before : body_end bytes (count bytes - 1) ≤ b = ⊎_elim (λ more. ended (count bytes - 1) (omega arith) (omega arith)) (λ same. subst (λ n. body_end bytes (n - 1) ≤ b) (omega arith) low) (cases_lt first (count bytes)) in
+    (omega arith, omega arith, before, omega (arith, file.whole))
+first_behind {bytes} file b first (Some s) some low inside (from, below, behind, ended) =
+    let before : body_end bytes (s - 1) ≤ b = ⊎_elim (λ more. ended (s - 1) (omega arith) (omega arith)) (λ same. subst (λ n. body_end bytes (n - 1) ≤ b) (omega arith) low) (cases_lt first s) in
+    (omega arith, omega arith, before, behind)
 
 pub none_from : {A : Type 0} (o : Option A) → is_some o ≡ false → o ≡ None
 none_from None e = refl

@@ -68,7 +68,7 @@ module _ {T : Type 0} (items : T → List Event) where
   pub pushed_err : (o : Result Event Refusal) (at : Site) (stay move q : Place) (t t' : T) (y : ReadError) → (P : ReadError → Type 0) → HandedAs Pushes Converts (found o) at stay move t t' q (Err y) → ((f : Refusal) → o ≡ Err f → P (Refused f)) → P Memory → P y
   pushed_err (Err f) at stay move q t t' y P h refused memory = subst P (sym h.0) (refused f refl)
   pushed_err (Ok e) at stay move q t t' y P (Ok x, pushed, tells, goes) refused memory = absurd (let z : ◌≡◌ {A = ℕ} 0 1 = cc in omega arith)
-  pushed_err (Ok e) at stay move q t t' y P (Err x, pushed, tells, goes) refused memory = let same : y ≡ x = cc in subst P (sym (same ∙ pushed)) memory
+  pushed_err (Ok e) at stay move q t t' y P (Err x, pushed, tells, goes) refused memory = let same : y ≡ x = cc in subst P (sym (same ∙ pushed.0)) memory
 
 -- one section more
 tagged_push : (s c : ℕ) (counts : List ℕ) (es more : List Event) → sum counts ≡ length es → c ≡ length more → tagged s (counts ++ (c ∷ [])) (es ++ more) ≡ tagged s counts es ++ in_section (s + length counts) more

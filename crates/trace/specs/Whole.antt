@@ -37,10 +37,10 @@ pub record Contains (bytes counts : List ℕ) (events : List Event) : Type 0 whe
 abbrev pub Refuses : List ℕ → Refusal → Type 0
 Refuses bytes f = (opening bytes ≡ Some f) ⊎ ((opening bytes ≡ None) × ((ts : List (ℕ × Event)) × Reads bytes (origin bytes) ts (Some f)))
 
--- one event more, or want of memory
+-- one event more, or want of memory, and then the list as it was
 abbrev pub Pushed : List Event → Event → Result (Unit {0}) ReadError → List Event → Type 0
 Pushed old e (Ok x) all = all ≡ old ++ (e ∷ [])
-Pushed old e (Err f) all = f ≡ Memory
+Pushed old e (Err f) all = (f ≡ Memory) × (all ≡ old)
 
 -- all that is read behind q was read behind p after the events of section s
 abbrev pub Onward : List ℕ → ℕ → Place → Place → List Event → Type 0

@@ -1,4 +1,5 @@
-// One event as bytes. A place in the file goes with the file's bytes, and no shorter slice, since a refusal names the place.
+// One event as bytes. The definitions say by its place in the whole file where each number stands, so the functions here take
+// the whole file and a place, and no shorter slice.
 ghost use Rattle.std.specs.Prelude.{◌≡◌, ◌+◌, ◌<◌, ◌≤◌, true, length, is_ok, slice_index};
 ghost use Rattle.trace.specs.Codec.{size, set_at, action_at, event_at};
 ghost use Rattle.trace.specs.Kinds.{code};

@@ -1,7 +1,7 @@
 // What is wrong with a trace file, and where.
 ghost use Rattle.std.specs.Prelude.{◌≡◌, Some};
 ghost use Rattle.trace.specs.Numbers.{number, write_number, layer};
-ghost use Rattle.trace.specs.Texts.{fault_words, site_text, refusal_text};
+ghost use Rattle.trace.specs.Texts.{fault_words, write_words, site_text, refusal_text};
 
 use std::error::Error;
 use std::fmt;
@@ -40,7 +40,7 @@ pub enum WriteFault {
 }
 
 impl Refusal {
-    // The layer that refuses: 1 is the trace file.
+    // The layer that refuses: 1 is the trace file. The rules fix the number.
     pub fn layer(self) -> u8
         ensures { result ≡ layer self }
     {
@@ -95,6 +95,20 @@ impl fmt::Display for TraceFault {
     }
 }
 
+impl fmt::Display for WriteFault {
+    ghost output = { λ f. Some (write_words f) };
+
+    fn fmt<W: fmt::Write>(&self, f: &mut fmt::Formatter<W>) -> fmt::Result {
+        let meaning = match *self {
+            WriteFault::Counts =>
+                "there are more than 256 sections, or they do not hold all events",
+            WriteFault::Oversize => "the file would have more than 65536 bytes",
+            WriteFault::NoRoom => "the file does not fit the buffer",
+        };
+        write!(f, "{meaning}")
+    }
+}
+
 impl fmt::Display for Refusal {
     ghost output = { λ f. Some (refusal_text f) };
 
@@ -106,5 +120,7 @@ impl fmt::Display for Refusal {
 }
 
 impl Error for TraceFault {}
+
+impl Error for WriteFault {}
 
 impl Error for Refusal {}

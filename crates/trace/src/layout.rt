@@ -10,6 +10,9 @@ use crate::words::chunk;
 // The most bytes that a trace file may have.
 pub const LONGEST: usize = 65_536;
 
+// How many bytes to read of an input: one more than a file may have, so that a longer one is refused and not read on.
+pub const ENOUGH: u64 = LONGEST as u64 + 1;
+
 // The edition of the format that is read and written.
 pub(crate) const EDITION: u16 = 1;
 
@@ -117,6 +120,7 @@ pub(crate) fn check_entries(bytes: &[u8], sections: usize) -> Result<(), Refusal
     ensures { MatchResult result (λ _. opening bytes.now ≡ None) (λ f. opening bytes.now ≡ Some f) }
 {
     let mut end = 4 + 8 * sections;
+    // by number, since a refusal names the place of entry i in the file
     for i in 0..sections {
         end = entry_end(bytes, i, end)?;
     }

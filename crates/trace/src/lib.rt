@@ -17,7 +17,7 @@ mod writer;
 
 pub use fault::{Refusal, Site, TraceFault, WriteFault};
 pub use handing::Taker;
-pub use layout::LONGEST;
+pub use layout::{ENOUGH, LONGEST};
 pub use place::{Guard, Place};
 pub use reader::Reader;
 pub use whole::{ReadError, Trace, read_whole};

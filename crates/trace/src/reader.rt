@@ -5,7 +5,8 @@ ghost use Rattle.trace.specs.Reading.{Stands};
 
 use crate::place::Place;
 
-// It stands before the file until the contents are read, and then between two events of a file that opens.
+// It stands before the file until the contents are read, and then between two events of a file that opens. That its bytes stay
+// what they were is a clause of each method that moves it: no fact of a type can say that a field stays as it was.
 #[derive(Drop)]
 pub struct Reader<'a> {
     pub(crate) bytes: &'a [u8],

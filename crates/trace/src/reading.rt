@@ -59,8 +59,8 @@ impl<'a> Reader<'a> {
         Ok(section_count(self.bytes))
     }
 
-    // Where the body of a section ends. That the file is opened is asked here and below, and is in no type: a reader is made
-    // before its file is opened, and making one cannot fail.
+    // Where the body of a section ends. That the file is opened is asked here and below, and is in no type: a result that holds
+    // a borrowed reader with facts in its type, as opening would answer it, gets no generated proof today.
     pub(crate) fn section_end(&self, section: usize) -> usize
         requires { (0 < self.now.at.byte) × ((0 < section) × (section ≤ count self.now.bytes.now)) }
         ensures { result ≡ body_end self.now.bytes.now section }
@@ -76,12 +76,13 @@ impl<'a> Reader<'a> {
         ensures value { result ≡ section_at self.now.bytes.now self.now.at.byte }
     {
         let sections = section_count(self.bytes);
-        for section in self.at.section.max(1)..sections {
-            if self.at.byte < self.section_end(section) {
-                return section;
-            }
-        }
-        sections
+        (self.at.section.max(1)..sections)
+            .find(
+                |&section|
+                    requires { (0 < self.now.at.byte) × ((0 < section) × (section ≤ count self.now.bytes.now)) }
+                { self.at.byte < self.section_end(section) },
+            )
+            .unwrap_or(sections)
     }
 
     // The next event, if there is one. Only an event that is taken moves a reader inside the file.

@@ -2,7 +2,8 @@
 ghost use Rattle.std.specs.Prelude.{length};
 ghost use Rattle.trace.specs.Sheets.{Room, Adds};
 
-// The buffer, and where the next bytes go: it is the caller's, of any length, since the writer takes no heap.
+// The buffer, and where the next bytes go. It is the caller's, of any length, since the writer takes no heap. The whole of it is
+// held, and not what is left, since `write` promises all of it, what stands before `at` too.
 #[derive(Drop)]
 pub(crate) struct Sheet<'a> {
     pub(crate) out: &'a mut [u8],

@@ -13,7 +13,8 @@ use std::alloc::{AllocError, Global};
 use std::error::Error;
 use std::fmt;
 
-// Events, and how many of them each section has: one list of all events, as `write` takes them, and not one for each section.
+// Events, and how many of them each section has. There is one list of all events, and not one for each section: the rules fix
+// that a writer takes events and how many each section has, and what was read can be written again.
 #[derive(Drop)]
 pub struct Trace {
     pub events: Vec<Event>,
