@@ -12,7 +12,7 @@ ghost use Rattle.slots.specs.Serials.{number_at, serial_at};
 ghost use Rattle.slots.specs.Told.{found_as};
 
 use crate::acts::{reads_place, writes_place};
-use crate::partners::Holders;
+use crate::holders::Holders;
 use crate::table::Slots;
 use events::{Action, Event, PlaceSet};
 use keepers::Keeper;

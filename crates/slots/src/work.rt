@@ -5,7 +5,7 @@ ghost use Rattle.order.specs.Work.{calls, accesses, looked_at, written, forget_f
 ghost use Rattle.slots.specs.Made.{Made};
 ghost use Rattle.slots.specs.Serials.{Numbered, Emptied, by_read, by_write, by_commit};
 
-use crate::partners::Holders;
+use crate::holders::Holders;
 use crate::passes::{pass_in, pass_out};
 use crate::table::Slots;
 use events::{Action, Event, PlaceSet};
