@@ -3,3 +3,4 @@ pub mod HoldersLeft
 pub mod Made
 pub mod Bounds
 pub mod Told
+pub mod Searched
