@@ -72,13 +72,14 @@ impl Call {
     }
 }
 
-// Lets all calls go. A call has no `Drop`, since a slip has none, so the queue is emptied call by call. Nothing comes out
-// that a clause could speak of.
-pub fn abandon_all(mut calls: VecDeque<Call>) {
+// Lets all calls go. A call has no `Drop`, since a slip has none, so the queue is emptied call by call; being empty, it
+// may then be destroyed.
+pub fn abandon_all(calls: &mut VecDeque<Call>)
+    ensures { calls.new.items ≡ [] }
+{
     while let Some(call) = calls.pop_front() {
         call.abandon();
     }
-    calls.destroy_empty();
 }
 
 // Starts a monitor over the keeper, whatever that held before, and makes the calls in order. Where there is no memory for
@@ -93,7 +94,8 @@ pub fn answer_all<K: Keeper>(
     ensures examples { IfOk result (λ s. AllByRecursion (AnsweredAs calls.items s.replies.items) examples) }
 {
     let Ok(mut replies) = Vec::with_capacity(heap, calls.len()) else {
-        abandon_all(calls);
+        abandon_all(&mut calls);
+        calls.destroy_empty();
         return Err(keeper);
     };
     let mut monitor = Monitor::start(keeper);

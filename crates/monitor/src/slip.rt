@@ -41,7 +41,7 @@ impl Slip {
         }
     }
 
-    // Adds a place to the read set.
+    // Adds a place to the read set. This and `add_write` are two promises; the work is done once, by `add`.
     pub fn add_read(&mut self, place: u8) -> Result<(), RuleFault>
         ensures answer { result ≡ add_answer place }
         ensures slip { self.new ≡ with_read self.old place }

@@ -21,6 +21,7 @@ impl Verdict {
         match self {
             Verdict::Accepted { .. } => None,
             Verdict::Refused { fault } => Some(fault.number()),
+            // the rules fix the number of a decline; a refusal's kind has its own, 1 to 9
             Verdict::Declined { .. } => Some(10),
         }
     }

@@ -12,7 +12,7 @@ use std::alloc::{AllocError, Global};
 // The set of place 5 alone.
 const FIVE: PlaceSet = PlaceSet { word: 32 };
 
-// Who does what.
+// Who does what. An `Event` says the same; its fields' names would make the table no plainer.
 const RUNS: [&[(u8, Action)]; 10] = [
     &[
         (0, Action::Write { place: 5 }),

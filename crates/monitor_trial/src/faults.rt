@@ -1,6 +1,7 @@
 // Events that break the rules on threads and locks, among events that are accepted, one after another.
 use events::Action;
 
+// A thread and what it does. An `Event` says the same; its fields' names would make the table no plainer.
 pub(crate) const FAULTS: [(&str, u8, Action); 19] = [
     (
         "a read by a thread that was not forked",

@@ -1,6 +1,7 @@
 // Events at and past the end of each range, offered one after another.
 use events::{Action, PlaceSet};
 
+// A thread and what it does. An `Event` says the same; its fields' names would make the table no plainer.
 pub(crate) const RANGES: [(&str, u8, Action); 21] = [
     ("thread 7 forked", 0, Action::Fork { child: 7 }),
     ("thread 8 forked", 0, Action::Fork { child: 8 }),

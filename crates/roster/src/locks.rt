@@ -53,7 +53,7 @@ impl LockTable {
         self.locks.iter().any(|lock| lock.holder == Some(thread))
     }
 
-    // The thread now holds the lock.
+    // The thread now holds the lock. This and `release` are two promises; the work is done once, by `set_holder`.
     pub fn acquire(&mut self, lock: u8, thread: u8)
         ensures { (l : ℕ) → holder_of self.new l ≡ (if nat_lt l 32 && lock == l then Some thread else holder_of self.old l) }
     {

@@ -15,7 +15,7 @@ use Rattle.order.proofs.Work.{calls_work}
 use Rattle.order.proofs.PassCounts.{calls_passes}
 use Rattle.slots.specs.Bounds.{InBounds}
 use Rattle.slots.specs.Made.{called, made, passes_in, passes_out, set_at}
-use Rattle.slots.specs.Partners.{AllHolders}
+use Rattle.slots.specs.HoldersLeft.{AllHolders}
 use Rattle.slots.proofs.Ranges.{Ranged, in_range, thread_in_range, taken_holders, given_holders}
 
 -- the call's numbers are in range

@@ -217,7 +217,3 @@ apart_touches t (Commit r w) i q = absurd (i.commit r w refl)
 
 pub nothing_touched : (e : Event) → Apart e.action → (q : ℕ) → touches e q ≡ false
 nothing_touched e i q = apart_touches e.thread e.action i q
-
--- the write slot of a place has the number 9p
-pub pending_first : (e : Event) (n : ℕ → ℕ) (s : ℕ → Set) (p : ℕ) → pending e (n (9 * p)) (s (9 * p)) ≡ pending e (n (9 * p + 0)) (s (9 * p + 0))
-pending_first e n s p = let same : 9 * p ≡ 9 * p + 0 = omega arith in ap (λ i. pending e (n i) (s i)) same

@@ -11,7 +11,7 @@ use Rattle.keepers.specs.Meaning.{Meaning, is_slot, is_holder}
 use Rattle.order.specs.Slots.{place_holders_below, place_holders}
 use Rattle.order.specs.Cells.{some_in}
 use Rattle.slots.specs.Made.{held}
-use Rattle.slots.specs.Partners.{capped, AllHolders}
+use Rattle.slots.specs.HoldersLeft.{capped, AllHolders}
 
 or_bit : (a b : ℕ) → bit_or a b % 2 ≡ max (a % 2) (b % 2)
 or_bit a b = omega (arith, or_step a b)
@@ -46,11 +46,11 @@ shifted_small : (ps : List ℕ) → AllByRecursion (λ p. p < 64) ps → AllHold
 shifted_small [] small = tt
 shifted_small (p ∷ ps) small = (let l = small.0 in omega arith, shifted_small ps small.1)
 
-pub holders_small : (r w : ℕ) → AllHolders (place_holders r w)
+pub holders_small : (n r w : ℕ) → n ≤ 64 → AllByRecursion (λ h. h < 136) (place_holders_below n r w)
 unfolding place_holders_below
-holders_small r w = shifted_small _ (those_small 64 64 _ (omega arith))
+holders_small n r w l = shifted_small _ (those_small n 64 _ l)
 
-pub capped_same : (hs : List ℕ) → AllHolders hs → capped hs ≡ hs
+pub capped_same : (hs : List ℕ) → AllByRecursion (λ h. h < 136) hs → capped hs ≡ hs
 capped_same [] small = refl
 capped_same (h ∷ hs) small = let l = small.0 in let same : min h 255 ≡ h = omega arith in (λ d. same d ∷ capped_same hs small.1 d)
 

@@ -9,7 +9,7 @@ use Rattle.order.specs.Faults.{no_such_thread, no_such_thing, faults}
 use Rattle.order.specs.Slots.{taken, given}
 use Rattle.order.specs.Verdicts.{NoFault}
 use Rattle.slots.specs.Bounds.{InBounds}
-use Rattle.slots.specs.Partners.{AllHolders}
+use Rattle.slots.specs.HoldersLeft.{AllHolders}
 use Rattle.slots.proofs.Places.{holders_small}
 
 -- the operand of the action is in range
@@ -62,7 +62,7 @@ taken_holders (WriteFlag f) l = tt
 taken_holders (Fork u) l = tt
 taken_holders (Join u) l = (omega arith, tt)
 taken_holders (Allocate o) l = tt
-taken_holders (Commit r w) l = holders_small r.word w.word
+taken_holders (Commit r w) l = holders_small 64 r.word w.word (omega arith)
 
 pub given_holders : (a : Action) → Ranged a → AllHolders (given a)
 given_holders (Read p) l = tt
@@ -74,7 +74,7 @@ given_holders (WriteFlag f) l = (omega arith, tt)
 given_holders (Fork u) l = (omega arith, tt)
 given_holders (Join u) l = tt
 given_holders (Allocate o) l = tt
-given_holders (Commit r w) l = holders_small r.word w.word
+given_holders (Commit r w) l = holders_small 64 r.word w.word (omega arith)
 
 -- an event that no rule refuses is in bounds
 pub in_bounds : (rec : List Event) (e : Event) → NoFault rec e → InBounds e

@@ -1,5 +1,6 @@
 pub mod Serials
-pub mod Partners
+pub mod HoldersLeft
 pub mod Made
 pub mod Bounds
 pub mod Told
+pub mod Searched

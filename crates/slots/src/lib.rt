@@ -3,7 +3,7 @@
 
 mod acts;
 mod asking;
-mod partners;
+mod holders;
 mod passes;
 mod race;
 mod serials;

@@ -1,8 +1,8 @@
 // Passes between a thread and those with whom its event shares.
 ghost use Rattle.slots.specs.Made.{Made, passes_in, passes_out};
-ghost use Rattle.slots.specs.Partners.{holders_left};
+ghost use Rattle.slots.specs.HoldersLeft.{holders_left};
 
-use crate::partners::Holders;
+use crate::holders::Holders;
 use keepers::Keeper;
 
 // Passes from each holder to the thread. What the keeper refuses changes nothing.

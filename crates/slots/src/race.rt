@@ -7,13 +7,14 @@ ghost use Rattle.order.specs.Cells.{pending as pending_in};
 ghost use Rattle.order.specs.Judgement.{found};
 ghost use Rattle.order.specs.Searches.{or_else};
 ghost use Rattle.slots.specs.Bounds.{InBounds};
-ghost use Rattle.slots.specs.Made.{set_at, held, held_at};
+ghost use Rattle.slots.specs.Made.{set_at, held};
+ghost use Rattle.slots.specs.Searched.{serials_of, sets_of};
 ghost use Rattle.slots.specs.Serials.{number_at, serial_at};
 ghost use Rattle.slots.specs.Told.{found_as};
 
 use crate::acts::{reads_place, writes_place};
-use crate::partners::Holders;
-use crate::table::Slots;
+use crate::holders::Holders;
+use crate::table::{Slots, slot_of};
 use events::{Action, Event, PlaceSet};
 use keepers::Keeper;
 
@@ -49,14 +50,14 @@ struct Search<'a, K: Keeper> {
 impl<K: Keeper> Search<'_, K> {
     // The race at the lowest of the places that has one, where the event touches no other.
     fn lowest_race(&self, places: PlaceSet) -> Option<Racing>
-        ensures { ((p : ℕ) → member places.word p ≡ false → touches self.now.event p ≡ false) → found_as result ≡ cell_race self.now.event (serial_at self.now.slots.now.serials) (held_at (K.meaning self.now.slots.now.keeper)) }
+        ensures { ((p : ℕ) → member places.word p ≡ false → touches self.now.event p ≡ false) → found_as result ≡ cell_race self.now.event (serials_of self.now) (sets_of self.now) }
     {
         places.iter().find_map(|place| self.race_at(place))
     }
 
     // The race at the place.
     fn race_at(&self, place: u8) -> Option<Racing>
-        ensures { found_as result ≡ found place (cell_witness self.now.event place (serial_at self.now.slots.now.serials place) (held_at (K.meaning self.now.slots.now.keeper) place)) }
+        ensures { found_as result ≡ found place (cell_witness self.now.event place (serials_of self.now place) (sets_of self.now place)) }
     {
         let witness = self.witness(place)?;
         Some(Racing { place, witness })
@@ -64,12 +65,12 @@ impl<K: Keeper> Search<'_, K> {
 
     // The serial of what the event races with at the place. A place that it does not access has none.
     fn witness(&self, place: u8) -> Option<u32>
-        ensures { result ≡ cell_witness self.now.event place (serial_at self.now.slots.now.serials place) (held_at (K.meaning self.now.slots.now.keeper) place) }
+        ensures { result ≡ cell_witness self.now.event place (serials_of self.now place) (sets_of self.now place) }
     {
         if writes_place(self.event, place) {
             self.pending_any(place)
         } else if reads_place(self.event, place) {
-            self.pending(9 * place as usize)
+            self.pending(slot_of(place, 0))
         } else {
             None
         }
@@ -78,9 +79,9 @@ impl<K: Keeper> Search<'_, K> {
     // What a write races with: the place's write, if that has not reached the event, otherwise the
     // read by the lowest thread that has not. The slots are in that order.
     fn pending_any(&self, place: u8) -> Option<u32>
-        ensures { result ≡ or_else (pending_in self.now.event (serial_at self.now.slots.now.serials place 0) (held_at (K.meaning self.now.slots.now.keeper) place 0)) (cell_read self.now.event (serial_at self.now.slots.now.serials place) (held_at (K.meaning self.now.slots.now.keeper) place)) }
+        ensures { result ≡ or_else (pending_in self.now.event (serials_of self.now place 0) (sets_of self.now place 0)) (cell_read self.now.event (serials_of self.now place) (sets_of self.now place)) }
     {
-        let first = 9 * place as usize;
+        let first = slot_of(place, 0);
         (first..first + 9).find_map(|slot| self.pending(slot))
     }
 

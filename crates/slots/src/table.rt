@@ -1,5 +1,5 @@
 // The slots over a keeper.
-ghost use Rattle.std.specs.Prelude.{◌≡◌, ℕ, ◌&&◌, if◌then◌else◌, None, nat_lt};
+ghost use Rattle.std.specs.Prelude.{◌≡◌, ℕ, ◌+◌, ◌*◌, ◌&&◌, if◌then◌else◌, None, nat_lt};
 ghost use Rattle.keepers.specs.Meaning.{cleared};
 ghost use Rattle.order.specs.Questions.{cell_told};
 ghost use Rattle.slots.specs.Made.{set_at};
@@ -8,6 +8,14 @@ ghost use Rattle.slots.specs.Told.{told_as};
 
 use crate::serials::Serials;
 use keepers::{Keeper, THREADS};
+
+// The number of slot k of a place, as the rules have it.
+#[inline(always)]
+pub(crate) fn slot_of(place: u8, k: u8) -> usize
+    ensures { result ≡ 9 * place + k }
+{
+    9 * place as usize + k as usize
+}
 
 // The keeper has the set of each slot, the table the serial of its access.
 #[derive(Drop)]
@@ -50,14 +58,15 @@ impl<K: Keeper> Slots<K> {
     }
 
     // What is told of slot k of a place: 0 for its write, t + 1 for thread t's read; and whether
-    // that access has reached the thread. Nothing is told of what is out of range.
+    // that access has reached the thread. Nothing is told of what is out of range. The slot is a
+    // number since the rules number a place's slots; the monitor's `Access` is made of that.
     pub fn tell(&self, place: u8, slot: u8, thread: u8) -> Option<Told>
         ensures { told_as result ≡ (if nat_lt place 64 && (nat_lt slot 9 && nat_lt thread 8) then cell_told (serial_at self.now.serials place slot) (set_at (K.meaning self.now.keeper) place slot) thread else None) }
     {
         if place >= 64 || slot >= 9 || thread >= THREADS {
             return None;
         }
-        let at = 9 * place as usize + slot as usize;
+        let at = slot_of(place, slot);
         let serial = self.serials.at(at)?;
         let reached = self.holds(at, thread);
         Some(Told { serial, reached })

@@ -5,9 +5,9 @@ ghost use Rattle.order.specs.Work.{calls, accesses, looked_at, written, forget_f
 ghost use Rattle.slots.specs.Made.{Made};
 ghost use Rattle.slots.specs.Serials.{Numbered, Emptied, by_read, by_write, by_commit};
 
-use crate::partners::Holders;
+use crate::holders::Holders;
 use crate::passes::{pass_in, pass_out};
-use crate::table::Slots;
+use crate::table::{Slots, slot_of};
 use events::{Action, Event, PlaceSet};
 use keepers::{Keeper, THREADS};
 
@@ -18,6 +18,8 @@ struct Step {
     serial: u32,
 }
 
+// Several clauses say `Made K.live K.meaning`: it relates two keepers, so the type can't hold it,
+// and gives a fact that a keeper is live, which the type's field `lives` holds only truncated.
 impl<K: Keeper> Slots<K> {
     // Passes to the event's thread, then its accesses, then passes from its thread. What the
     // keeper refuses changes nothing, and no event within its ranges is refused.
@@ -56,7 +58,7 @@ impl<K: Keeper> Slots<K> {
         if step.thread >= THREADS {
             return;
         }
-        let slot = 9 * place as usize + (step.thread as usize + 1);
+        let slot = slot_of(place, step.thread + 1);
         let _ = self.keeper.begin(slot, step.thread);
         self.serials.put(slot, step.serial);
     }
@@ -66,7 +68,7 @@ impl<K: Keeper> Slots<K> {
         ensures keeper { Made K.live K.meaning (written step.thread place) self.old.keeper self.new.keeper }
         ensures serials { Numbered self.old.serials self.new.serials (by_write place step.serial) }
     {
-        let first = 9 * place as usize;
+        let first = slot_of(place, 0);
         let _ = self.keeper.begin(first, step.thread);
         self.serials.put(first, step.serial);
         self.forget(first + 1, 8);

@@ -42,7 +42,8 @@ pub(crate) fn listed(heap: Global, parts: &[Part]) -> Result<VecDeque<Call>, All
     match queued {
         Ok(()) => Ok(calls),
         Err(fault) => {
-            abandon_all(calls);
+            abandon_all(&mut calls);
+            calls.destroy_empty();
             Err(fault)
         }
     }

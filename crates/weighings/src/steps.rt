@@ -5,6 +5,7 @@ use monitor::{Access, Question};
 // What a call asks for. A `Call` can't be told of with its answer: it is spent by then, and a slip shows no sets.
 #[derive(Clone, Copy)]
 pub(crate) enum Step {
+    // a thread and what it does: an `Event`'s field names would make the tables no plainer
     Offer(u8, Action),
     Commit {
         thread: u8,

@@ -1,6 +1,6 @@
 use Rattle.std.proofs.Common.{◌≡◌}
 use Rattle.slots.specs.Made.{made, passes_out}
-use Rattle.slots.specs.Partners.{holders_left}
+use Rattle.slots.specs.HoldersLeft.{holders_left}
 use Rattle.slots.proofs.passes.pass_out.Given as goal
 
 -- what is left to pass gives the whole effect

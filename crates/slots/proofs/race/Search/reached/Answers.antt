@@ -3,7 +3,7 @@ use Rattle.std.proofs.lemmas.Iterator.Consumers.{YieldsList-from_first}
 use Rattle.std.proofs.lemmas.Iterator.Search.{any_from_yields_List}
 use Rattle.order.specs.Slots.{taken}
 use Rattle.slots.specs.Made.{held}
-use Rattle.slots.specs.Partners.{holders_left, capped}
+use Rattle.slots.specs.HoldersLeft.{holders_left, capped}
 use Rattle.slots.proofs.Places.{some_held}
 use Rattle.slots.proofs.Found.{arrived_own, arrived_else}
 use Rattle.slots.proofs.race.Search.reached.Goals as goal

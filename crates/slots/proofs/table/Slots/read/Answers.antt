@@ -17,4 +17,4 @@ invariant_of-self g c = record { lives = ∥∥₁_map c.args.self.now.lives c.b
 
 pub returns-clause-serials : goal.returns-clause-serials
 returns-clause-serials g c p k a b =
-    c.put.ensures (9 * p + k) ∙ read_at c.args.place c.args.step.thread c.args.step.serial p k (serial_at c.args.self.now.serials p k) (omega arith) a b
+    (rw c.slot_of-slot.ensures at c.put.ensures (9 * p + k)) ∙ read_at c.args.place c.args.step.thread c.args.step.serial p k (serial_at c.args.self.now.serials p k) (omega arith) a b

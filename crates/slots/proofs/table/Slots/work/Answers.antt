@@ -1,5 +1,5 @@
 use Rattle.std.proofs.Math.Logic.{∥∥₁_map}
-use Rattle.slots.specs.Partners.{holders_left}
+use Rattle.slots.specs.HoldersLeft.{holders_left}
 use Rattle.slots.proofs.Calls.{all_made}
 use Rattle.slots.proofs.table.Slots.work.Goals as goal
 

@@ -1,7 +1,7 @@
 use Rattle.std.proofs.Common.{◌+◌, map, ap, ◌∙◌}
 use Rattle.events.specs.Places.{member, those_below}
 use Rattle.slots.proofs.Places.{union_holders}
-use Rattle.slots.proofs.partners.Holders.of_places.Goals as goal
+use Rattle.slots.proofs.holders.Holders.of_places.Goals as goal
 
 pub returns : goal.returns
 returns c =

@@ -6,7 +6,7 @@ use Rattle.std.specs.Prelude.{ℕ, ◌+◌, ◌<◌, min, List, ◌++◌, map}
 use Rattle.std.specs.List.{AllByRecursion}
 use Rattle.std.specs.Option.{option_to_list}
 use Rattle.events.specs.Places.{places_left}
-use Rattle.slots.specs.declared.partners.Holders.{Holders}
+use Rattle.slots.specs.declared.holders.Holders.{Holders}
 
 abbrev pub holders_left : Holders → List ℕ
 holders_left i = option_to_list i.one ++ map (λ p. 72 + p) (places_left i.places)

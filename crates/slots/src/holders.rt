@@ -2,7 +2,7 @@
 ghost use Rattle.std.specs.Prelude.{◌≡◌, ◌∷◌, []};
 ghost use Rattle.std.specs.Iterator.{YieldsFirst, item_count};
 ghost use Rattle.order.specs.Slots.{taken, given, place_holders};
-ghost use Rattle.slots.specs.Partners.{holders_left, capped};
+ghost use Rattle.slots.specs.HoldersLeft.{holders_left, capped};
 
 use events::{Action, PlaceSet, Places};
 
