@@ -1,6 +1,6 @@
 -- The vectors of all holders: as they start, one holder after another, and after a hand-over. Assumes nothing.
-use Rattle.std.proofs.Common.{◌≡◌, ℕ, ◌+◌, ◌<◌, min, max, cond, ◌&&◌, eqb, ltb, List, length, get_or, set, replicate, sym, ap, ◌∙◌, inl, inr, arith}
-use Rattle.std.proofs.lemmas.List.{get_or-set_same, get_or-set_other, get_or_default, get_or-replicate, length-set}
+use Rattle.std.proofs.Common.{◌≡◌, ℕ, ◌+◌, ◌-◌, ◌<◌, ◌≤◌, min, max, cond, ◌&&◌, eqb, ltb, List, length, ◌++◌, get_or, set, drop, replicate, sym, ap, ◌∙◌, inl, inr, arith}
+use Rattle.std.proofs.lemmas.List.{get_or-set_same, get_or-set_other, get_or_append_left, get_or-append_right, get_or_default, get_or-replicate, length-set}
 use Rattle.std.proofs.lemmas.Bool.{cases_eq, cases_lt, lt-ltb, le-ltb, cond-true, cond-false, and_left, and_right, eq-eqb, ne_eqb}
 use Rattle.std.proofs.lemmas.Bool.Decides.{nat_tests}
 use Rattle.keepers.specs.Meaning.{is_thread}
@@ -29,6 +29,23 @@ zero t = elim (cases_lt t 8) [
 pub heard_zero : (v : ClockVector) → v ≡ never_heard → (h t : ℕ) → h < 136 → heard_of (replicate 136 v) h t ≡ cond (eqb h t && ltb h 0) 1 0
 heard_zero v never h t l = ap (λ w. count_at w t) (get_or-replicate 136 h v no_clock l ∙ never) ∙ zero t ∙ sym (cond-false (eqb h t && ltb h 0) 1 0 (and_right (eqb h t) (ltb h 0) (le-ltb h 0 (omega arith))))
 
+-- the first eight vectors have been written, and the others are as they were
+pub heard_eight : (cs : List ClockVector) (v : ClockVector) (i : ℕ) → length cs ≡ 8 → 8 ≤ i → v ≡ never_heard
+    → ((h t : ℕ) → h < 8 → t < 8 → heard_of cs h t ≡ cond (eqb h t && ltb h i) 1 0)
+    → (h t : ℕ) → h < 136 → t < 8 → heard_of (cs ++ drop 8 (replicate 136 v)) h t ≡ cond (eqb h t) 1 0
+heard_eight cs v i len past never each h t p k = elim (cases_lt h 8) [
+  | inl l ↦ ap (λ w. count_at w t) (get_or_append_left cs (drop 8 (replicate 136 v)) no_clock h (omega (arith, len))) ∙ each h t l k ∙ below h t l
+  | inr l ↦
+      ap (λ w. count_at w t) (get_or-append_right cs (replicate 128 v) 8 h no_clock len l ∙ get_or-replicate 128 (h - 8) v no_clock (omega arith) ∙ sym (get_or-replicate 136 h v no_clock p))
+      ∙ heard_zero v never h t p
+      ∙ beyond h t l k
+]
+  where
+    below : (h t : ℕ) → h < 8 → ◌≡◌ {A = ℕ} (cond (eqb h t && ltb h i) 1 0) (cond (eqb h t) 1 0)
+    below h t l = grind (arith, nat_tests)
+    beyond : (h t : ℕ) → 8 ≤ h → t < 8 → ◌≡◌ {A = ℕ} (cond (eqb h t && ltb h 0) 1 0) (cond (eqb h t) 1 0)
+    beyond h t l k = grind (arith, nat_tests)
+
 -- the own count of thread i moves on from 0
 one_more : (h t i : ℕ) → t < 8 → h ≡ i → cond (is_thread t && eqb t i) (min (cond (eqb i t && ltb i i) 1 0 + 1) 4294967295) (cond (eqb i t && ltb i i) 1 0) ≡ cond (eqb h t && ltb h (i + 1)) 1 0
 one_more h t i k e = grind (arith, nat_tests)
@@ -36,18 +53,19 @@ one_more h t i k e = grind (arith, nat_tests)
 same_more : (h t i : ℕ) → (h ≡ i → ⊥) → ◌≡◌ {A = ℕ} (cond (eqb h t && ltb h i) 1 0) (cond (eqb h t && ltb h (i + 1)) 1 0)
 same_more h t i n = grind (arith, nat_tests)
 
-pub heard_more : (cs : List ClockVector) (i : ℕ) (w z : ClockVector) → i < length cs → i < 136
-    → ((h t : ℕ) → h < 136 → t < 8 → heard_of cs h t ≡ cond (eqb h t && ltb h i) 1 0)
+-- one vector more, of the first n
+pub heard_more : {n : ℕ} → (cs : List ClockVector) (i : ℕ) (w z : ClockVector) → i < length cs → i < n
+    → ((h t : ℕ) → h < n → t < 8 → heard_of cs h t ≡ cond (eqb h t && ltb h i) 1 0)
     → ((t : ℕ) → count_at w t ≡ cond (is_thread t && eqb t i) (min (count_at (get_or cs i z) t + 1) 4294967295) (count_at (get_or cs i z) t))
-    → (h t : ℕ) → h < 136 → t < 8 → heard_of (set cs i w) h t ≡ cond (eqb h t && ltb h (i + 1)) 1 0
+    → (h t : ℕ) → h < n → t < 8 → heard_of (set cs i w) h t ≡ cond (eqb h t && ltb h (i + 1)) 1 0
 heard_more cs i w z l r each ticks h t p k = elim (cases_eq h i) [
   | inl e ↦
-      ap (λ (n : ℕ). heard_of (set cs i w) n t) e
+      ap (λ (m : ℕ). heard_of (set cs i w) m t) e
       ∙ heard_set_same cs i t w l
       ∙ ticks t
-      ∙ ap (λ (n : ℕ). cond (is_thread t && eqb t i) (min (n + 1) 4294967295) n) (read cs i t z l ∙ each i t r k)
+      ∙ ap (λ (m : ℕ). cond (is_thread t && eqb t i) (min (m + 1) 4294967295) m) (read cs i t z l ∙ each i t r k)
       ∙ one_more h t i k e
-  | inr n ↦ heard_set_other cs i h t w n ∙ each h t p k ∙ same_more h t i n
+  | inr d ↦ heard_set_other cs i h t w d ∙ each h t p k ∙ same_more h t i d
 ]
 
 -- b takes over what a has heard, to v, and then a's own count moves on, to w

@@ -19,13 +19,13 @@ pub struct Clocks {
 }
 
 // Each thread's own count is 1 and every other count 0, so that nobody has heard of what a thread
-// is about to do. The loop is over the threads: over the vectors a clear takes four times as long.
+// is about to do. Of the holders the threads come first.
 fn first_clocks() -> [ClockVector; CLOCKS]
     ensures { (h t : ℕ) → h < 136 → t < 8 → heard_of result h t ≡ (if nat_eq h t then 1 else 0) }
 {
     let mut clocks = [ClockVector::zero(); CLOCKS];
-    for thread in 0..THREADS {
-        clocks[thread as usize].tick(thread);
+    for (thread, clock) in clocks[..THREADS as usize].iter_mut().enumerate() {
+        clock.tick(thread as u8);
     }
     clocks
 }
@@ -59,6 +59,8 @@ impl Clocks {
 
 // While live, a thread's own count is ahead of what every other holder has heard of it. As a ghost
 // field this would be no plainer: it stands in no contract here but by `live`, which the trait asks for.
+// One frame over any table would be no plainer: each call is a check, a write and a count, and a trait of
+// tables would carry as many laws as this interface.
 impl Keeper for Clocks {
     ghost meaning = { clocks_mean };
 

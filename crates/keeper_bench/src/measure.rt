@@ -37,7 +37,8 @@ fn passes<K: Keeper>(keeper: &mut K, how_many: u64) {
 }
 
 // How many were answered yes, so that no question can be left out. A loop: with `filter` and `count`
-// the questions of locksets take more than twice the time.
+// locksets answer 110 million a second in place of 290, and the figures of docs/PERFORMANCE.md would no
+// longer compare.
 fn asks<K: Keeper>(keeper: &K) -> u64 {
     let mut yes: u64 = 0;
     for number in (0..ASKS).map(scrambled) {
@@ -55,18 +56,21 @@ fn rate(calls: u64, span: Duration) -> u128 {
         .unwrap_or(0)
 }
 
+// What the work gives, and how long it takes.
+fn timed<T: Drop, F: FnOnce() -> T>(rt: &HostRuntime, work: F) -> anyhow::Result<(T, Duration)>
+    requires { F.IsAlwaysCallable work }
+{
+    let start = Instant::now(rt)?;
+    let done = work();
+    Ok((done, start.elapsed(rt)?))
+}
+
 pub(crate) fn run<K: Keeper>(rt: &HostRuntime, name: &str, keeper: &mut K) -> anyhow::Result<()> {
     keeper.clear();
-    let start = Instant::now(rt)?;
-    begins(keeper);
-    let begun = start.elapsed(rt)?;
+    let ((), begun) = timed(rt, || begins(keeper))?;
     passes(keeper, FIRST_PASSES);
-    let start = Instant::now(rt)?;
-    let yes = asks(keeper);
-    let asked = start.elapsed(rt)?;
-    let start = Instant::now(rt)?;
-    passes(keeper, PASSES);
-    let passed = start.elapsed(rt)?;
+    let (yes, asked) = timed(rt, || asks(keeper))?;
+    let ((), passed) = timed(rt, || passes(keeper, PASSES))?;
     println!(rt;
         "{name}: {} begins/s, {} passes/s, {} asks/s ({yes} yes, {} passes made)",
         rate(BEGINS, begun),

@@ -99,5 +99,5 @@ fn how_many<F: Fn(usize, u8) -> bool>(test: F) -> usize
 {
     (0..=SLOTS)
         .map(|slot| (0..=HOLDERS).filter(|holder| test(slot, *holder)).count())
-        .fold(0, |all: usize, some| all.saturating_add(some))
+        .fold(0, usize::saturating_add)
 }

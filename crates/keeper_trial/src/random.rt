@@ -1,4 +1,6 @@
 // Pseudo-random calls from a fixed seed, within the ranges and just past them.
+ghost use Rattle.std.specs.Prelude.{◌<◌, ◌≤◌};
+
 use keepers::KeeperCall;
 use std::alloc::{AllocError, Global};
 
@@ -16,21 +18,25 @@ impl Random {
         self.state >> 20
     }
 
-    // Half of the slots are among the first few, so that calls meet.
-    fn slot(&mut self) -> usize {
+    // A number below `all`, every other time one of the first few, so that calls meet.
+    fn below(&mut self, few: u64, all: u64) -> u64
+        requires few { 0 < few }
+        requires all { few ≤ all }
+        ensures { result < all }
+    {
         if self.next() % 2 == 0 {
-            (self.next() % 20) as usize
+            self.next() % few
         } else {
-            (self.next() % 580) as usize
+            self.next() % all
         }
     }
 
+    fn slot(&mut self) -> usize {
+        self.below(20, 580) as usize
+    }
+
     fn holder(&mut self) -> u8 {
-        if self.next() % 2 == 0 {
-            (self.next() % 12) as u8
-        } else {
-            (self.next() % 138) as u8
-        }
+        self.below(12, 138) as u8
     }
 
     fn thread(&mut self) -> u8 {

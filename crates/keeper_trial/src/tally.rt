@@ -49,5 +49,5 @@ pub(crate) fn differences(answers: &PileAnswers) -> usize {
     ]
     .iter()
     .map(|pile| unlike(expected, pile.as_slice()))
-    .fold(0, |all: usize, some| all.saturating_add(some))
+    .fold(0, usize::saturating_add)
 }

@@ -1,4 +1,5 @@
 pub mod Fault
+pub mod Texts
 pub mod Meaning
 pub mod Tables
 pub mod Calls

@@ -10,7 +10,7 @@ ghost use Rattle.keepers.specs.Meaning.{begin_answer, forget_answer, pass_answer
 use crate::fault::KeeperFault;
 
 // A type that implements this is lawful. Nothing is promised of a keeper that was never cleared, and
-// a layer may be made over such a one: so `live` stands in the clauses and in no type.
+// a layer may be made over such a one: so `live` stands in the clauses and in no keeper's type.
 pub trait Keeper {
     // the set of each slot, and the count of passes
     ghost meaning: { Self → Meaning };

@@ -33,7 +33,9 @@ impl Locksets {
     }
 }
 
-// Any value means what it holds, so a lockset keeper is lawful from the start.
+// Any value means what it holds, so a lockset keeper is lawful from the start. One frame over any table
+// would be no plainer: each call is a check, a write and a count, and a trait of tables would carry as
+// many laws as this interface.
 impl Keeper for Locksets {
     ghost meaning = { locksets_mean };
 

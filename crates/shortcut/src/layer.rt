@@ -60,7 +60,7 @@ impl<K: Keeper> Keeper for ShortCut<K> {
     }
 
     // Says yes to the owner without asking below.
-    #[tactic(auto, using(crate::proofs::Agree::agree_asked))]
+    #[tactic(auto, using(crate::proofs::Agree::owner_answered))]
     fn ask(&self, slot: usize, holder: u8) -> Result<bool, KeeperFault> {
         if self.owners.owner(slot) == Some(holder) {
             return Ok(true);
@@ -73,7 +73,8 @@ impl<K: Keeper> Keeper for ShortCut<K> {
     }
 }
 
-// A keeper of any type and a layer over one answer alike; with a layer for K, so does a pile.
+// A keeper of any type and a layer over one answer alike; with a layer for K, so does a pile. One
+// call of `alike`: this is the law of layers as a function, which its contract states.
 pub fn layer_alike<K: Keeper>(
     heap: Global,
     plain: &mut K,

@@ -35,7 +35,8 @@ impl OwnerTable {
         }
     }
 
-    // Remembers who began the slot, if it is in range.
+    // Remembers who began the slot, if it is in range. Two promises, this and `forget`, and one private
+    // function does the work of both.
     pub fn remember(&mut self, slot: usize, thread: u8)
         ensures { (s : ℕ) → owner_at self.new s ≡ rewritten self.old slot (Some thread) s }
     {

@@ -1,11 +1,11 @@
-use Rattle.std.proofs.Common.{refl, arith, rules}
-use Rattle.clocks.proofs.Starts.{heard_zero, heard_more}
+use Rattle.std.proofs.Common.{arith}
+use Rattle.clocks.proofs.Starts.{heard_eight, heard_more}
 use Rattle.clocks.proofs.keeper.first_clocks.Goals as goal
-
-pub loop-thread-init : goal.loop-thread-init
-loop-thread-init c = (refl, λ h t l _. heard_zero c.zero-clocks.result c.zero-clocks.ensures h t l)
 
 pub loop-thread-preserved : goal.loop-thread-preserved
 loop-thread-preserved c =
-    let kept = c.loop-thread.invariant in
-    (search rules, heard_more c.loop-thread.clocks c.loop-thread.thread c.tick.new.self _ (omega arith) (omega arith) kept.1 c.tick.ensures)
+    let at = c.loop-thread in
+    heard_more at.clock-items at.thread c.tick.new.self _ (omega arith) (omega arith) at.invariant c.tick.ensures
+
+pub returns : goal.returns
+returns c = let at = c.loop-thread in heard_eight at.clock-items c.zero-clocks.result at.thread at.auto.clock-items c.loop-thread-test.false c.zero-clocks.ensures at.invariant
