@@ -14,16 +14,19 @@ use Rattle.roster.specs.Numbers.{fault_number}
 use Rattle.trace.specs.declared.fault.Refusal.{Refusal}
 use Rattle.trace.specs.declared.fault.Site.{Site}
 use Rattle.trace.specs.declared.place.Place.{Place}
-use Rattle.trace.specs.Reading.{site, inside, next, after}
+use Rattle.trace.specs.Layout.{section_at}
+use Rattle.trace.specs.Reading.{site, inside, moved, next, after}
 use Rattle.trace.specs.Refusals.{FirstRefusal, EventSite, EventRefusal}
-use Rattle.trace.proofs.Answered.{Begun, inside_behind, next_event, next_refusal, begun_after}
+use Rattle.trace.specs.Whole.{Reads}
+use Rattle.trace.proofs.Answered.{Begun, inside_behind, inside_again, next_event, next_none, next_refusal, some_after, begun_after}
 use Rattle.trace.proofs.Refusals.{event_site}
+use Rattle.trace.proofs.Sections.{reads_more, reads_end}
 use Rattle.certificate.specs.declared.fault.Cause.{Cause}
 use Rattle.certificate.specs.declared.fault.Cause.TheVariants.{Trace}
 use Rattle.certificate.specs.declared.fault.Fault.{Fault}
 use Rattle.certificate.specs.declared.finding.Finding.{Finding}
 use Rattle.certificate.specs.Running.{recorded_all, listed, Passes, Halts, Outcome, StopsAs, Runs}
-use Rattle.certificate.specs.Sentence.{NamesRace, EndsBy, EndsRightly, Sentence}
+use Rattle.certificate.specs.Sentence.{NamesRace, EndsBy, EndsRightly, ReadOut, Sentence}
 use Rattle.certificate.proofs.Ahead.{counted}
 
 -- the record stays lawful and race-free
@@ -96,6 +99,38 @@ known bytes p rec fs (e ∷ es) o Q begun lawful free all found (reads, passes, 
     let rest = known bytes (after bytes p) (recorded rec e a) (listed fs (n + 1) a) es o Q (begun_after bytes p begun e reads) (next_lawful rec e lawful free a refl) (next_free rec e lawful free a refl) (listed_right Q fs (n + 1) rec e a all right here) later runs in
     record { record_is = rest.record_is; lawful = rest.lawful; free = rest.free; races = rest.races; first = rest.first }
 
+-- each event that was read is counted
+all_counted : (bytes : List ℕ) (p : Place) (rec : List Event) (fs : List Finding) (es : List Event) (o : Outcome) → Runs bytes p rec fs es o → o.place.events ≡ (inside bytes p).events + length es
+unfolding Runs
+all_counted bytes p rec fs [] o stops = let same = ap (λ q. q.events) stops.place_stays in omega arith
+all_counted bytes p rec fs (e ∷ es) o (reads, passes, runs) =
+    let one = counted bytes p e reads in
+    let rest = all_counted bytes (after bytes p) (recorded rec e (judge rec e)) (listed fs ((inside bytes p).events + 1) (judge rec e)) es o runs in
+    omega arith
+
+-- without a fault the file was read to its end
+none_more : (r : Result (Option Event) Refusal) (at : Site) (rec : List Event) (fs : List Finding) (end : Option Fault) → StopsAs r at rec fs end → end ≡ None → r ≡ Ok None
+none_more (Ok None) at rec fs end h none = refl
+none_more (Err f) at rec fs end h none = absurd (cc)
+none_more (Ok (Some e)) at rec fs end (c, halts, h) none = absurd (cc)
+
+read_out : (bytes : List ℕ) (p : Place) (rec : List Event) (fs : List Finding) (es : List Event) (o : Outcome) → o.end ≡ None → Runs bytes p rec fs es o → ReadOut bytes p es
+unfolding Runs
+read_out bytes p rec fs [] o end stops =
+    let none = next_none bytes p (none_more (next bytes p) (site bytes (inside bytes p)) rec fs o.end stops.ends end) in
+    record { opens = none.0; sectioned = []; reads = reads_end bytes (inside bytes p) none.1; events = refl }
+read_out bytes p rec fs (e ∷ es) o end (reads, passes, runs) =
+    let read = next_event bytes p e reads in
+    let q = inside bytes p in
+    let on : inside bytes (after bytes p) ≡ moved bytes q = inside_again bytes (after bytes p) (some_after bytes p e reads) ∙ read.moves in
+    let rest = read_out bytes (after bytes p) (recorded rec e (judge rec e)) (listed fs (q.events + 1) (judge rec e)) es o end runs in
+    record {
+      opens = read.opens;
+      sectioned = (section_at bytes q.byte, e) ∷ rest.sectioned;
+      reads = reads_more bytes q (section_at bytes q.byte) e rest.sectioned None read.more refl read.takes (subst (λ x. Reads bytes x rest.sectioned None) on rest.reads);
+      events = ap (λ l. e ∷ l) rest.events;
+    }
+
 -- findings are never taken back
 listed_grows : (fs : List Finding) (n : ℕ) (a : Answer) → length fs ≤ length (listed fs n a)
 listed_grows fs n (accepted s) = omega arith
@@ -133,5 +168,7 @@ sentence bytes p rec es o begun lawful free runs =
       sound = record { ordered = all.free; reads = same_reads o.recorded_as all.free; own = own_order o.recorded_as };
       clean = λ end none. all.record_is ∙ all_accepted bytes p rec [] es o none runs;
       races = all.races;
+      counted = all_counted bytes p rec [] es o runs;
+      whole = λ end. read_out bytes p rec [] es o end runs;
       first = all.first;
     }

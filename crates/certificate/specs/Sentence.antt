@@ -7,9 +7,10 @@
 --                          left, and that is refused by the first of the file's rules or of the judgement's that applies, or
 --                          was declined, for a race, when 1,000 findings were listed
 --   EndsRightly bytes o f  the same of the fault f, cause and site
+--   ReadOut bytes p es     the file opens and is read to its end, and es are its events from the place p on
 --   Sentence bytes p rec es o   what is said of the run of the events es from the place p and the record on, with no findings at first,
 --                          which came to the outcome o
-use Rattle.std.specs.Prelude.{◌≡◌, ℕ, ◌+◌, ◌≤◌, ◌⊎◌, List, [], ◌∷◌, ◌++◌, reverse, length, Some, None, Ok, Err, Option, Result}
+use Rattle.std.specs.Prelude.{◌≡◌, ℕ, ◌+◌, ◌≤◌, ◌⊎◌, List, [], ◌∷◌, ◌++◌, map, reverse, length, Some, None, Ok, Err, Option, Result}
 use Rattle.std.specs.List.{AllByRecursion}
 use Rattle.std.specs.declared.alloc.AllocFailed.{AllocFailed}
 use Rattle.events.specs.declared.Event.{Event}
@@ -19,8 +20,10 @@ use Rattle.order.specs.Verdicts.{Right}
 use Rattle.roster.specs.Numbers.{fault_number}
 use Rattle.trace.specs.declared.place.Place.{Place}
 use Rattle.trace.specs.declared.fault.Site.{Site}
+use Rattle.trace.specs.Layout.{opening}
 use Rattle.trace.specs.Reading.{inside, next}
 use Rattle.trace.specs.Refusals.{FirstRefusal, EventSite, EventRefusal}
+use Rattle.trace.specs.Whole.{Reads}
 use Rattle.monitor.specs.declared.monitor.Monitor.{Monitor}
 use Rattle.monitor.specs.Promise.{Sound}
 use Rattle.monitor.specs.Stands.{Stands}
@@ -50,6 +53,12 @@ EndsBy bytes o at (ByRun f) =
 abbrev pub EndsRightly : List ℕ → Outcome → Fault → Type 0
 EndsRightly bytes o f = EndsBy bytes o f.at f.cause
 
+pub record ReadOut (bytes : List ℕ) (p : Place) (es : List Event) : Type 0 where
+  pub opens : opening bytes ≡ None
+  pub sectioned : List (ℕ × Event)
+  pub reads : Reads bytes (inside bytes p) sectioned None
+  pub events : map (λ t. t.1) sectioned ≡ es
+
 pub record Sentence (bytes : List ℕ) (p : Place) (rec : List Event) (es : List Event) (o : Outcome) : Type 0 where
   -- the record after the run is that of the events that were accepted, and conflicting accesses of it are ordered; every
   -- rearrangement that keeps thread order and hand-overs gives each read the same latest write
@@ -59,6 +68,9 @@ pub record Sentence (bytes : List ℕ) (p : Place) (rec : List Event) (es : List
   pub clean : o.end ≡ None → o.findings ≡ [] → o.recorded_as ≡ reverse es ++ rec
   -- each finding names a real race
   pub races : AllByRecursion (NamesRace rec (inside bytes p).events es) o.findings
+  -- the reader has counted the events that were read, and without a fault there is no other
+  pub counted : o.place.events ≡ (inside bytes p).events + length es
+  pub whole : o.end ≡ None → ReadOut bytes p es
   -- a refusal is the first that applies, and is told at its site
   pub first : (f : Fault) → o.end ≡ Some f → EndsRightly bytes o f
 
