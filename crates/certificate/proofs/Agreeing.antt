@@ -20,6 +20,7 @@ use Rattle.monitor.specs.Stands.{Stands}
 use Rattle.certificate.specs.Sentence.{Certified}
 use Rattle.certificate.specs.Texts.{text}
 use Rattle.certificate.specs.Certified.{Certifies, Agree}
+use Rattle.certificate.proofs.LastLines.{tells}
 
 -- two causes that halt a run at one event are the same
 same_halt : (fs : List Finding) (a : Answer) (c d : Cause) → Halts fs a c → Halts fs a d → c ≡ d
@@ -67,11 +68,15 @@ agree bytes t t' c d =
 
 -- the text that is made of what a run leaves
 pub certifies : {K : Type 0} {its : Ghosts K} (bytes : List ℕ) (q : Place) (m : Monitor K its) (fs : List Finding) (end : Option Fault) (n : ℕ) → Certified bytes outside [] q m fs end → ((rec : List Event) → Stands rec m → n ≡ length rec) → (r : Result (String Global) AllocError) → IfOk r (λ t. string_bytes t ≡ text n fs end) → IfOk r (λ t. Certifies bytes (string_bytes t))
-certifies bytes q m fs end n run counts (Ok t) is = record {
-  events = run.came.events;
-  outcome = record { recorded_as = run.came.rec'; findings = fs; end = end; place = q };
-  runs = run.came.runs;
-  says = run.says;
-  is = is ∙ ap (λ k. text k fs end) (counts run.came.rec' run.came.stands);
-}
+certifies bytes q m fs end n run counts (Ok t) is =
+    let o : Outcome = record { recorded_as = run.came.rec'; findings = fs; end = end; place = q } in
+    let told : string_bytes t ≡ text (length o.recorded_as) fs end = is ∙ ap (λ k. text k fs end) (counts run.came.rec' run.came.stands) in
+    record {
+      events = run.came.events;
+      outcome = o;
+      runs = run.came.runs;
+      says = run.says;
+      is = told;
+      tells = tells bytes (string_bytes t) run.came.events o run.says told;
+    }
 certifies bytes q m fs end n run counts (Err e) is = tt

@@ -2,4 +2,6 @@ pub mod Ahead
 pub mod Onward
 pub mod Sentences
 pub mod Lines
+pub mod LastLines
 pub mod Agreeing
+pub mod Hosting

@@ -1,4 +1,5 @@
 use Rattle.std.proofs.Common.{sym}
+use Rattle.trace.proofs.Answered.{begun_stands}
 use Rattle.certificate.specs.Running.{RunOn}
 use Rattle.certificate.proofs.Sentences.{sentence}
 use Rattle.certificate.proofs.running.run_file.Goals as goal
@@ -12,6 +13,6 @@ returns g c =
     record {
       run = λ rec stands.
           let came = rw (none, sym c.err-end.ensures.value) at (told.run rec stands) in
-          record { came = came; says = sentence from.bytes.now from.at rec came.events _ stands.lawful stands.free came.runs };
+          record { came = came; says = sentence from.bytes.now from.at rec came.events _ (begun_stands from.bytes.now from.at from.stands) stands.lawful stands.free came.runs };
       bytes = told.bytes;
     }
