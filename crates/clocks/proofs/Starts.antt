@@ -43,6 +43,7 @@ heard_eight cs v i len past never each h t p k = elim (cases_lt h 8) [
   where
     below : (h t : ℕ) → h < 8 → ◌≡◌ {A = ℕ} (cond (eqb h t && ltb h i) 1 0) (cond (eqb h t) 1 0)
     below h t l = grind (arith, nat_tests)
+
     beyond : (h t : ℕ) → 8 ≤ h → t < 8 → ◌≡◌ {A = ℕ} (cond (eqb h t && ltb h 0) 1 0) (cond (eqb h t) 1 0)
     beyond h t l k = grind (arith, nat_tests)
 
