@@ -1,4 +1,6 @@
 -- What a list of calls comes to on a keeper. Assumes nothing.
+-- Several clauses say `Made K.live K.meaning`: it relates two keepers, so no type can hold it, and says that a live one
+-- is left live, which the field `lives` of `Slots` holds only truncated.
 --   called c m    the meaning m after the call c; a refused call leaves it
 --   made cs m     the meaning after a list of calls, in that order
 --   Made          a live keeper is left live, and the calls have been made on it

@@ -18,8 +18,6 @@ struct Step {
     serial: u32,
 }
 
-// Several clauses say `Made K.live K.meaning`: it relates two keepers, so the type can't hold it,
-// and gives a fact that a keeper is live, which the type's field `lives` holds only truncated.
 impl<K: Keeper> Slots<K> {
     // Passes to the event's thread, then its accesses, then passes from its thread. What the
     // keeper refuses changes nothing, and no event within its ranges is refused.
