@@ -46,7 +46,8 @@ impl LockTable {
         self.holder(lock) == Some(thread)
     }
 
-    // Whether the thread holds any lock.
+    // Whether the thread holds any lock. Only a join asks, so that it is kept out of what asks each event.
+    #[inline(never)]
     pub fn holds_any(&self, thread: u8) -> bool
         ensures { result ≡ holds_some 32 (holder_of self.now) thread }
     {

@@ -39,6 +39,8 @@ impl Roster {
     }
 
     // Refuses the event by the first of numbers 1 to 9 that applies, after so many accepted ones.
+    // It is asked of each event of a file: as a call it would have the event laid out in memory.
+    #[inline(always)]
     pub fn rule(&self, accepted: u32, event: Event) -> Result<(), RuleFault>
         ensures { numbered result ≡ refused self.now accepted event }
     {
@@ -78,6 +80,7 @@ impl Roster {
     }
 
     // Numbers 6, 7 and 8.
+    #[inline(always)]
     fn check_locks(&self, event: Event) -> Result<(), RuleFault>
         ensures { numbered result ≡ lock_number (holders self.now) event.thread event.action }
     {

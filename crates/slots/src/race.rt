@@ -2,10 +2,11 @@
 ghost use Rattle.std.specs.Prelude.{◌≡◌, ℕ, false};
 ghost use Rattle.events.specs.Places.{member};
 ghost use Rattle.order.specs.Acts.{touches};
-ghost use Rattle.order.specs.Cells.{arrived, cell_read, cell_witness, cell_race};
+ghost use Rattle.order.specs.Cells.{arrived, some_in, cell_read, cell_witness, cell_race};
 ghost use Rattle.order.specs.Cells.{pending as pending_in};
 ghost use Rattle.order.specs.Judgement.{found};
 ghost use Rattle.order.specs.Searches.{or_else};
+ghost use Rattle.order.specs.Slots.{taken};
 ghost use Rattle.slots.specs.Bounds.{InBounds};
 ghost use Rattle.slots.specs.Made.{set_at, held};
 ghost use Rattle.slots.specs.Searched.{serials_of, sets_of};
@@ -31,16 +32,22 @@ impl<K: Keeper> Slots<K> {
     pub fn race(&self, event: Event) -> Option<Racing>
         ensures { InBounds event → found_as result ≡ cell_race event (serial_at self.now.serials) (set_at (K.meaning self.now.keeper)) }
     {
-        let search = Search { slots: self, event };
         match event.action {
-            Action::Read { place } | Action::Write { place } => search.race_at(place),
-            Action::Commit { reads, writes } => search.lowest_race(reads.union(writes)),
+            Action::Read { place } | Action::Write { place } => {
+                let search = Search { slots: self, event };
+                search.race_at(place)
+            }
+            Action::Commit { reads, writes } => {
+                let search = Search { slots: self, event };
+                search.lowest_race(reads.union(writes))
+            }
             _ => None,
         }
     }
 }
 
-// The search for what an event races with.
+// The search for what an event races with. Its steps are inlined where they are taken, since a
+// write takes nine of them; but few accesses get as far as `brought`, so that it stays a call.
 #[derive_where(Clone, Copy)]
 struct Search<'a, K: Keeper> {
     slots: &'a Slots<K>,
@@ -56,6 +63,7 @@ impl<K: Keeper> Search<'_, K> {
     }
 
     // The race at the place.
+    #[inline(always)]
     fn race_at(&self, place: u8) -> Option<Racing>
         ensures { found_as result ≡ found place (cell_witness self.now.event place (serials_of self.now place) (sets_of self.now place)) }
     {
@@ -64,6 +72,7 @@ impl<K: Keeper> Search<'_, K> {
     }
 
     // The serial of what the event races with at the place. A place that it does not access has none.
+    #[inline(always)]
     fn witness(&self, place: u8) -> Option<u32>
         ensures { result ≡ cell_witness self.now.event place (serials_of self.now place) (sets_of self.now place) }
     {
@@ -78,6 +87,7 @@ impl<K: Keeper> Search<'_, K> {
 
     // What a write races with: the place's write, if that has not reached the event, otherwise the
     // read by the lowest thread that has not. The slots are in that order.
+    #[inline(always)]
     fn pending_any(&self, place: u8) -> Option<u32>
         ensures { result ≡ or_else (pending_in self.now.event (serials_of self.now place 0) (sets_of self.now place 0)) (cell_read self.now.event (serials_of self.now place) (sets_of self.now place)) }
     {
@@ -86,6 +96,7 @@ impl<K: Keeper> Search<'_, K> {
     }
 
     // The serial of the slot's access, unless there is none or it has reached the event.
+    #[inline(always)]
     fn pending(&self, slot: usize) -> Option<u32>
         ensures { result ≡ pending_in self.now.event (number_at self.now.slots.now.serials slot) (held (K.meaning self.now.slots.now.keeper) slot) }
     {
@@ -94,10 +105,18 @@ impl<K: Keeper> Search<'_, K> {
     }
 
     // Whether the thread of the event, or one from whom the event takes, is in the slot's set.
+    #[inline(always)]
     fn reached(&self, slot: usize) -> bool
         ensures { result ≡ arrived self.now.event (held (K.meaning self.now.slots.now.keeper) slot) }
     {
-        self.slots.holds(slot, self.event.thread)
-            || Holders::takes_from(self.event.action).any(|holder| self.slots.holds(slot, holder))
+        self.slots.holds(slot, self.event.thread) || self.brought(slot)
+    }
+
+    // Whether one from whom the event takes is in the slot's set.
+    #[inline(never)]
+    fn brought(&self, slot: usize) -> bool
+        ensures { result ≡ some_in (taken self.now.event.action) (held (K.meaning self.now.slots.now.keeper) slot) }
+    {
+        Holders::takes_from(self.event.action).any(|holder| self.slots.holds(slot, holder))
     }
 }

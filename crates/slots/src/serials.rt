@@ -1,7 +1,7 @@
 // The serial of each slot's access.
-ghost use Rattle.std.specs.Prelude.{◌≡◌, ℕ, ◌&&◌, if◌then◌else◌, ◌==◌};
+ghost use Rattle.std.specs.Prelude.{◌≡◌, ℕ, ◌≤◌, ◌&&◌, if◌then◌else◌, ◌==◌};
 ghost use Rattle.keepers.specs.Meaning.{is_slot};
-ghost use Rattle.slots.specs.Serials.{number_at, some_serial};
+ghost use Rattle.slots.specs.Serials.{Emptied, number_at, some_serial};
 
 use keepers::SLOTS;
 
@@ -37,6 +37,15 @@ impl Serials {
         // by index, since after a `get_mut` a proof knows none of the array's numbers
         if slot < SLOTS {
             self.numbers[slot] = serial;
+        }
+    }
+    // Empties so many slots from the first on.
+    pub(crate) fn empty(&mut self, first: usize, count: usize)
+        requires { (first ≤ 10000) × (count ≤ 36) }
+        ensures { Emptied self.old self.new first count }
+    {
+        for slot in first..first + count {
+            self.put(slot, 0);
         }
     }
 }

@@ -18,6 +18,16 @@ struct Step {
     serial: u32,
 }
 
+// Forgets so many slots of the keeper, from the first on.
+fn forget_slots<K: Keeper>(keeper: &mut K, first: usize, count: usize)
+    requires { (first ≤ 10000) × (count ≤ 36) }
+    ensures { Made K.live K.meaning (forget_from count first) keeper.old keeper.new }
+{
+    for slot in first..first + count {
+        let _ = keeper.forget(slot);
+    }
+}
+
 impl<K: Keeper> Slots<K> {
     // Passes to the event's thread, then its accesses, then passes from its thread. What the
     // keeper refuses changes nothing, and no event within its ranges is refused.
@@ -62,6 +72,7 @@ impl<K: Keeper> Slots<K> {
     }
 
     // A write begins the place's write slot and forgets its eight read slots.
+    #[inline(always)]
     fn write(&mut self, place: u8, step: Step)
         ensures keeper { Made K.live K.meaning (written step.thread place) self.old.keeper self.new.keeper }
         ensures serials { Numbered self.old.serials self.new.serials (by_write place step.serial) }
@@ -72,16 +83,15 @@ impl<K: Keeper> Slots<K> {
         self.forget(first + 1, 8);
     }
 
-    // Forgets so many slots from the first on.
+    // Forgets so many slots from the first on: of the keeper, and then of the serials, since a loop
+    // over both writes slower.
     fn forget(&mut self, first: usize, count: usize)
         requires { (first ≤ 10000) × (count ≤ 36) }
         ensures keeper { Made K.live K.meaning (forget_from count first) self.old.keeper self.new.keeper }
         ensures serials { Emptied self.old.serials self.new.serials first count }
     {
-        for slot in first..first + count {
-            let _ = self.keeper.forget(slot);
-            self.serials.put(slot, 0);
-        }
+        forget_slots(&mut self.keeper, first, count);
+        self.serials.empty(first, count);
     }
 
     // A commit writes each place of its write set and reads each other place of its read set, the
