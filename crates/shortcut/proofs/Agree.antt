@@ -1,9 +1,9 @@
 -- The agreement of the owner table with the keeper below, kept by each call. Assumes nothing.
-use Rattle.std.proofs.Common.{◌≡◌, ℕ, ◌<◌, Bool, true, cond, ◌&&◌, eqb, get_or, Some, None, Ok, Err, Option, Result, sym, refl, ap, ◌∙◌, subst, inl, inr, arith}
+use Rattle.std.proofs.Common.{◌≡◌, ℕ, ◌<◌, Bool, true, false, cond, ◌&&◌, eqb, get_or, Some, None, Ok, Err, Option, Result, sym, refl, ap, ◌∙◌, subst, inl, inr, arith}
 use Rattle.std.proofs.lemmas.List.{get_or-replicate}
 use Rattle.std.proofs.lemmas.Bool.{cases_eq, cases_lt, lt-ltb, le-ltb, eq-eqb, ne_eqb, cond-true, cond-false, and_from, and_left, and_right}
-use Rattle.keepers.specs.Meaning.{Meaning, is_slot, begun, forgotten, passed, begin_answer, ask_answer}
-use Rattle.keepers.proofs.Laws.{sets_begun_here, sets_begun_other, sets_forgotten_other, forgotten_same, stays_passed}
+use Rattle.keepers.specs.Meaning.{Meaning, is_slot, cleared, begun, forgotten, passed, begin_answer, ask_answer}
+use Rattle.keepers.proofs.Laws.{sets_cleared, sets_begun_here, sets_begun_other, sets_forgotten_here, sets_forgotten_other, forgotten_same, stays_passed, stays_empty}
 use Rattle.keepers.proofs.Laws.{begin_in_range, begun_refused, ask_taken}
 use Rattle.keepers.specs.declared.fault.KeeperFault.{KeeperFault}
 use Rattle.shortcut.specs.Owners.{owner_at, no_owners, rewritten, Owned}
@@ -11,8 +11,11 @@ use Rattle.shortcut.specs.declared.owners.OwnerTable.{OwnerTable}
 
 -- agreement
 
-pub owned_none : (m : Meaning) (o : OwnerTable) → o ≡ no_owners → Owned m o
-owned_none m o none = record { owned = λ s t e. absurd (let n = ap (λ (x : OwnerTable). owner_at x s) none ∙ nobody s in let z : ◌≡◌ {A = ℕ} 0 1 = cc in omega arith) }
+pub owned_none : (m : Meaning) (o : OwnerTable) → m ≡ cleared → o ≡ no_owners → Owned m o
+owned_none m o empty none = record {
+  owned = λ s t e. absurd (let n = ap (λ (x : OwnerTable). owner_at x s) none ∙ nobody s in let z : ◌≡◌ {A = ℕ} 0 1 = cc in omega arith);
+  remembered = λ s h _ _. ap (λ (n : Meaning). n.sets s h) empty ∙ sets_cleared s h;
+}
   where
     nobody : (s : ℕ) → owner_at no_owners s ≡ None
     nobody s = elim (cases_lt s 576) [
@@ -37,6 +40,10 @@ owned_begun m o o' slot thread p q owned written = record {
       entry slot s (Some thread) (owner_at o s) (Some t) ((s < 576) × (t < 8) × ((begun m slot thread).sets s t ≡ true)) (sym (written s) ∙ e)
       (λ same range f. let g : thread ≡ t = cc in (range, omega arith, ap (λ n. (begun m slot thread).sets n t) same ∙ sets_begun_here slot thread p q m t ∙ eq-eqb t thread (sym g)))
       (λ other f. let h = owned.owned s t f in (h.0, h.1, sets_begun_other slot thread p q m s t (λ same. other same h.0) ∙ h.2));
+  remembered = λ s h range e.
+      entry slot s (Some thread) (owner_at o s) None ((begun m slot thread).sets s h ≡ false) (sym (written s) ∙ e)
+      (λ _ _ f. absurd (let z : ◌≡◌ {A = ℕ} 0 1 = cc in omega arith))
+      (λ other f. sets_begun_other slot thread p q m s h (λ same. other same range) ∙ owned.remembered s h range f);
 }
 
 -- a slot in range is forgotten in both; out of range, in neither
@@ -46,6 +53,10 @@ owned_forgotten m o o' slot owned written = record {
       entry slot s None (owner_at o s) (Some t) ((s < 576) × (t < 8) × ((forgotten m slot).sets s t ≡ true)) (sym (written s) ∙ e)
       (λ same range f. absurd (let z : ◌≡◌ {A = ℕ} 0 1 = cc in omega arith))
       (λ other f. let h = owned.owned s t f in (h.0, h.1, kept s t h.0 other ∙ h.2));
+  remembered = λ s h range e.
+      entry slot s None (owner_at o s) None ((forgotten m slot).sets s h ≡ false) (sym (written s) ∙ e)
+      (λ same _ _. ap (λ n. (forgotten m slot).sets n h) same ∙ sets_forgotten_here slot (let r = range in omega arith) m h)
+      (λ other f. kept s h range other ∙ owned.remembered s h range f);
 }
   where
     kept : (s t : ℕ) → s < 576 → (s ≡ slot → s < 576 → ⊥) → (forgotten m slot).sets s t ≡ m.sets s t
@@ -61,6 +72,7 @@ agree_passed m m' o from to effect owned = record {
   owned = λ s t e.
       let h = owned.owned s t e in
       (h.0, h.1, ap (λ (n : Meaning). n.sets s t) effect ∙ stays_passed m from to s t h.2);
+  remembered = λ s h range e. ap (λ (n : Meaning). n.sets s h) effect ∙ stays_empty m from to s (λ k. owned.remembered s k range e) h;
 }
 
 pub agree_begun : (m m' : Meaning) (o o' : OwnerTable) (slot thread : ℕ) → m' ≡ begun m slot thread → begin_answer slot thread ≡ Ok tt

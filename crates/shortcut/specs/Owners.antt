@@ -3,8 +3,9 @@
 -- owner_at o s          the thread that the table o remembers for slot s, if any
 -- no_owners             nobody is remembered
 -- rewritten o slot v    what o remembers after v is written for the slot
--- Owned m o             each thread that o remembers is a thread in the slot's set
-use Rattle.std.specs.Prelude.{◌≡◌, ℕ, ◌<◌, true, cond, ◌&&◌, replicate, Some, None, Option, ◌==◌, slice_index_or}
+-- Owned m o             whom o remembers for a slot is a thread in the slot's set; where it remembers nobody, the set is empty,
+--                       so that whoever began a slot is remembered while the slot has anybody
+use Rattle.std.specs.Prelude.{◌≡◌, ℕ, ◌<◌, true, false, cond, ◌&&◌, replicate, Some, None, Option, ◌==◌, slice_index_or}
 use Rattle.keepers.specs.Meaning.{Meaning, is_slot}
 use Rattle.shortcut.specs.declared.owners.OwnerTable.{OwnerTable}
 
@@ -19,3 +20,4 @@ rewritten o slot v s = cond (is_slot s && s == slot) v (owner_at o s)
 
 pub record Owned (m : Meaning) (o : OwnerTable) : Type 0 where
   pub owned : (s t : ℕ) → owner_at o s ≡ Some t → (s < 576) × (t < 8) × (m.sets s t ≡ true)
+  pub remembered : (s h : ℕ) → s < 576 → owner_at o s ≡ None → m.sets s h ≡ false
