@@ -3,7 +3,8 @@ use Rattle.std.proofs.Common.{◌≡◌, ℕ, ◌/◌, ◌<◌, true, false, not
 use Rattle.std.proofs.lemmas.Bool.{eq-eqb, eqb-true, ltb-true, and_parts, and_from, or_cases, not-true, both_ways}
 use Rattle.events.specs.declared.Event.{Event}
 use Rattle.events.specs.Places.{member}
-use Rattle.order.specs.Acts.{kind, is, operand, read_set, write_set, does, allocates, writes_place, reads_place, commits}
+use Rattle.events.specs.Kinds.{kind}
+use Rattle.order.specs.Acts.{is, operand, read_set, write_set, does, allocates, writes_place, reads_place, commits}
 
 pub does_parts : (n : ℕ) (e : Event) (x : ℕ) → does n e x ≡ true → (is n e ≡ true) × (operand e.action ≡ x)
 unfolding does

@@ -5,7 +5,8 @@ use Rattle.events.specs.declared.Event.{Event}
 use Rattle.events.specs.declared.Action.{Action}
 use Rattle.events.specs.declared.Action.TheVariants.{Read, Write, Acquire, Release, ReadFlag, WriteFlag, Fork, Join, Allocate, Commit}
 use Rattle.events.specs.Places.{member, those_below}
-use Rattle.order.specs.Acts.{kind, operand, read_set, write_set, is, does, commits}
+use Rattle.events.specs.Kinds.{kind}
+use Rattle.order.specs.Acts.{operand, read_set, write_set, is, does, commits}
 use Rattle.order.specs.Holders.{Holder, of_thread, of_lock, of_flag, of_place, gives, takes, holder_number, InRange}
 use Rattle.order.specs.Slots.{place_holders_below, place_holders, taken, given}
 use Rattle.order.specs.Verdicts.{NoFault}

@@ -1,7 +1,5 @@
 -- What an event does. Assumes nothing.
---   kind           0 reads, 1 writes a place; 2 acquires, 3 releases a lock; 4 reads, 5 writes a flag;
---                  6 forks, 7 joins a thread; 8 allocates an object; 9 commits a transaction
---   operand        the number that goes with the kind; a commit has none
+--   operand        the number that goes with the kind (events/specs/Kinds); a commit has none
 --   read_set, write_set   a commit's two sets of places, as words
 --   writes_place   writes it, or commits with it in the write set
 --   reads_place    reads it, or commits with it in the read set and not in the write set
@@ -12,19 +10,8 @@ use Rattle.std.specs.Prelude.{ℕ, ◌/◌, Bool, not, ◌&&◌, ◌||◌, ◌==
 use Rattle.events.specs.declared.Event.{Event}
 use Rattle.events.specs.declared.Action.{Action}
 use Rattle.events.specs.declared.Action.TheVariants.{Read, Write, Acquire, Release, ReadFlag, WriteFlag, Fork, Join, Allocate, Commit}
+use Rattle.events.specs.Kinds.{kind}
 use Rattle.events.specs.Places.{member}
-
-abbrev pub kind : Action → ℕ
-kind (Read p) = 0
-kind (Write p) = 1
-kind (Acquire l) = 2
-kind (Release l) = 3
-kind (ReadFlag f) = 4
-kind (WriteFlag f) = 5
-kind (Fork u) = 6
-kind (Join u) = 7
-kind (Allocate o) = 8
-kind (Commit r w) = 9
 
 abbrev pub operand : Action → ℕ
 operand (Read p) = p

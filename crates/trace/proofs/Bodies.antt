@@ -5,7 +5,8 @@ use Rattle.std.proofs.lemmas.List.Concat.{length-flat_map}
 use Rattle.std.specs.List.{sum_by}
 use Rattle.events.specs.declared.Event.{Event}
 use Rattle.events.specs.declared.Action.TheVariants.{Read}
-use Rattle.trace.specs.Codec.{kind, event_bytes}
+use Rattle.events.specs.Kinds.{kind}
+use Rattle.trace.specs.Codec.{event_bytes}
 use Rattle.trace.specs.File.{body}
 use Rattle.trace.proofs.Events.{size_few, length_event}
 use Rattle.trace.proofs.Opened.{size_some}

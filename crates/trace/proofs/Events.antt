@@ -6,7 +6,8 @@ use Rattle.events.specs.declared.Event.{Event}
 use Rattle.events.specs.declared.Action.{Action}
 use Rattle.events.specs.declared.Action.TheVariants.{Read, Write, Acquire, Release, ReadFlag, WriteFlag, Fork, Join, Allocate, Commit}
 use Rattle.trace.specs.Words.{bytes_of}
-use Rattle.trace.specs.Codec.{kind, operands, size, event_bytes}
+use Rattle.events.specs.Kinds.{kind}
+use Rattle.trace.specs.Codec.{operands, size, event_bytes}
 use Rattle.trace.proofs.Numbers.{length_bytes_of}
 
 -- an event has at most 18 bytes

@@ -10,7 +10,8 @@ use Rattle.events.specs.declared.Action.{Action}
 use Rattle.events.specs.declared.Action.TheVariants.{Read, Write, Acquire, Release, ReadFlag, WriteFlag, Fork, Join, Allocate, Commit}
 use Rattle.trace.specs.declared.place.Place.{Place}
 use Rattle.trace.specs.Words.{number, bytes_of, word}
-use Rattle.trace.specs.Codec.{kind, operands, event_bytes, size, simple, set_at, action_at, decoded, event_at, Words}
+use Rattle.events.specs.Kinds.{kind}
+use Rattle.trace.specs.Codec.{operands, event_bytes, size, simple, set_at, action_at, decoded, event_at, Words}
 use Rattle.trace.specs.Layout.{count, entry_offset, entry_length, body_end, good_entry, bad_entry, entries, opening}
 use Rattle.trace.specs.Reading.{origin, site, placed, moved}
 use Rattle.trace.specs.File.{body, contents, file}

@@ -10,7 +10,8 @@ use Rattle.events.specs.declared.Event.{Event}
 use Rattle.events.specs.declared.Action.TheVariants.{Commit}
 use Rattle.trace.specs.declared.place.Place.{Place}
 use Rattle.trace.specs.Words.{bytes_of, word, Bytes}
-use Rattle.trace.specs.Codec.{kind, operands, event_bytes, size, simple, set_at, action_at, decoded}
+use Rattle.events.specs.Kinds.{kind}
+use Rattle.trace.specs.Codec.{operands, event_bytes, size, simple, set_at, action_at, decoded}
 use Rattle.trace.specs.Layout.{count, entry_offset, entry_length, body_end, ended, section_at}
 use Rattle.trace.specs.Reading.{origin, moved}
 use Rattle.trace.specs.File.{body, contents, file}

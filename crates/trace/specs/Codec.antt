@@ -1,5 +1,4 @@
 -- One event as bytes: kind, thread, operands. Assumes nothing.
---   kind a              the number of the action's kind, 0 to 9
 --   operands a          the bytes of its operands: one byte, or two sets of 64 bits
 --   event_bytes e       the event as it stands in a file
 --   size k              how many bytes an event of kind k takes
@@ -11,21 +10,10 @@ use Rattle.events.specs.declared.Event.{Event}
 use Rattle.events.specs.declared.Action.{Action}
 use Rattle.events.specs.declared.Action.TheVariants.{Read, Write, Acquire, Release, ReadFlag, WriteFlag, Fork, Join, Allocate, Commit}
 use Rattle.events.specs.declared.places.PlaceSet.{PlaceSet}
+use Rattle.events.specs.Kinds.{kind}
 use Rattle.trace.specs.declared.fault.TraceFault.{TraceFault}
 use Rattle.trace.specs.declared.fault.TraceFault.TheVariants.{Kind, Overrun}
 use Rattle.trace.specs.Words.{bytes_of, word}
-
-abbrev pub kind : Action → ℕ
-kind (Read p) = 0
-kind (Write p) = 1
-kind (Acquire l) = 2
-kind (Release l) = 3
-kind (ReadFlag f) = 4
-kind (WriteFlag f) = 5
-kind (Fork t) = 6
-kind (Join t) = 7
-kind (Allocate o) = 8
-kind (Commit r w) = 9
 
 abbrev pub operands : Action → List ℕ
 operands (Read p) = p ∷ []

@@ -1,6 +1,7 @@
 // The kinds of events: the number of each, and how long its events are.
 ghost use Rattle.std.specs.Prelude.{◌≡◌};
-ghost use Rattle.trace.specs.Codec.{kind as kind_number, size};
+ghost use Rattle.events.specs.Kinds.{kind as kind_number};
+ghost use Rattle.trace.specs.Codec.{size};
 ghost use Rattle.trace.specs.Kinds.{code, Decodes};
 
 use crate::fault::TraceFault;
