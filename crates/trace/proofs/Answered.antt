@@ -1,15 +1,19 @@
 -- What an answer of reading on says of the file and of the reader's place. Assumes nothing.
-use Rattle.std.proofs.Common.{◌≡◌, ℕ, ◌+◌, ◌-◌, ◌*◌, ◌<◌, ◌≤◌, Bool, true, false, cond, eqb, ltb, ◌⊎◌, List, length, get_or, Some, None, Ok, Err, Option, Result, IfErr, sym, refl, ap, ◌∙◌, inl, inr, arith}
+use Rattle.std.proofs.Common.{◌≡◌, ℕ, ◌+◌, ◌-◌, ◌*◌, ◌<◌, ◌≤◌, Bool, true, false, cond, eqb, ltb, ◌⊎◌, List, length, get_or, take, drop, Some, None, Ok, Err, Option, Result, sym, refl, ap, ◌∙◌, subst, inl, inr, arith}
 use Rattle.std.proofs.lemmas.Bool.{cond_both, cond-false, cond-true, eqb-false, ltb-true, ltb-false, ne_eqb}
 use Rattle.events.specs.declared.Event.{Event}
 use Rattle.trace.specs.declared.fault.Refusal.{Refusal}
 use Rattle.trace.specs.declared.place.Place.{Place}
-use Rattle.trace.specs.Layout.{count, opening}
-use Rattle.trace.specs.Reading.{entered, inside, outside, taken, moved, kept, found, onward, behind, unless_refused, next, after, Stands}
+use Rattle.trace.specs.Codec.{event_bytes}
+use Rattle.trace.specs.Layout.{count, opening, section_at}
+use Rattle.trace.specs.Reading.{entered, inside, taken, moved, kept, found, onward, behind, unless_refused, next, after, Stands}
 use Rattle.trace.specs.Refusals.{FirstRefusal, EventRefusal}
+use Rattle.trace.specs.Answers.{TakenEvent, Answers}
 use Rattle.trace.proofs.Entries.{body_end_none}
-use Rattle.trace.proofs.Opened.{size_some, ends_ordered}
-use Rattle.trace.proofs.Refusals.{first_refusal, event_refusal}
+use Rattle.trace.proofs.Opened.{opened, within, size_some, ends_ordered}
+use Rattle.trace.proofs.Steps.{after_stays, taken_ok}
+use Rattle.trace.proofs.Refusals.{first_refusal, opens, in_body, event_refusal}
+use Rattle.trace.proofs.Rewrite.{event_again, length_event_again}
 
 -- a reader that has begun stands behind the contents
 abbrev pub Begun : List ℕ → Place → Type 0
@@ -21,9 +25,6 @@ begun_stands bytes p stands some =
     let low = (stands some).1 in
     let rise = ends_ordered bytes 0 (p.section - 1) (omega arith) in
     omega arith
-
-pub begun_outside : (bytes : List ℕ) → Begun bytes outside
-begun_outside bytes some = absurd (omega arith)
 
 -- inside a file that opens every such reader stands behind the contents
 pub inside_behind : (bytes : List ℕ) (p : Place) → opening bytes ≡ None → Begun bytes p → 4 + 8 * count bytes ≤ (inside bytes p).byte
@@ -98,6 +99,25 @@ module _ (bytes : List ℕ) (p : Place) where
       let some = size_some (get_or bytes (inside bytes p).byte 0) in
       omega arith
 
+  -- the event's bytes stand where it was read, in the body of its section
+  taken_event : Begun bytes p → (e : Event) → next bytes p ≡ Ok (Some e) → (q : Place) → q ≡ after bytes p → TakenEvent bytes (inside bytes p) e q
+  taken_event begun e h q at =
+      let read = next_event e h in
+      let r = inside bytes p in
+      let file = opened bytes read.opens in
+      let body = in_body bytes r.byte file (inside_behind bytes p read.opens begun) read.more in
+      let ok = taken_ok bytes r e read.takes in
+      let end = within file (section_at bytes r.byte) body.last in
+      let long = ap (λ x. length (event_bytes x)) (sym ok.2) ∙ length_event_again bytes r.byte ok.0 in
+      subst (TakenEvent bytes r e) (sym (at ∙ read.moves)) (record {
+        opens = opens bytes read.opens;
+        stands = λ all. ap (λ n. take n (drop r.byte bytes)) long ∙ sym (ap event_bytes (sym ok.2) ∙ event_again bytes all r.byte ok.0 (omega arith));
+        section = body;
+        fits = ok.1;
+        event = refl;
+        byte = ap (λ n. r.byte + n) (sym long);
+      })
+
   pub begun_after : Begun bytes p → (e : Event) → next bytes p ≡ Ok (Some e) → Begun bytes (after bytes p)
   begun_after begun e h _ =
       let read = next_event e h in
@@ -105,7 +125,11 @@ module _ (bytes : List ℕ) (p : Place) where
       let low = inside_behind bytes p read.opens begun in
       omega arith
 
--- a refusal of reading on, as the rules tell it
-pub next_rule : (bytes : List ℕ) (p : Place) (r : Result (Option Event) Refusal) → (0 < p.byte → Stands bytes p) → r ≡ next bytes p → IfErr r (λ f. FirstRefusal bytes f ⊎ EventRefusal bytes (inside bytes p) f)
-next_rule bytes p (Ok x) stands e = tt
-next_rule bytes p (Err f) stands e = next_refusal bytes p (begun_stands bytes p stands) f (sym e)
+-- what an answer of reading on says
+pub next_rule : (bytes : List ℕ) (p q : Place) (r : Result (Option Event) Refusal) → (0 < p.byte → Stands bytes p) → r ≡ next bytes p → q ≡ after bytes p → Answers bytes (inside bytes p) q r
+next_rule bytes p q (Ok (Some e)) stands h at = taken_event bytes p (begun_stands bytes p stands) e (sym h) q at
+next_rule bytes p q (Ok None) stands h at =
+    let none = next_none bytes p (sym h) in
+    (opens bytes none.0, none.1, at ∙ after_stays bytes p (λ e g. let both = h ∙ g in absurd (let z : ◌≡◌ {A = ℕ} 0 1 = cc in omega arith)))
+next_rule bytes p q (Err f) stands h at =
+    (next_refusal bytes p (begun_stands bytes p stands) f (sym h), at ∙ after_stays bytes p (λ e g. let both = h ∙ g in absurd (let z : ◌≡◌ {A = ℕ} 0 1 = cc in omega arith)))

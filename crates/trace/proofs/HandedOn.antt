@@ -49,6 +49,11 @@ kept_err (Err g) at stay goes t q f h = ap Err (sym h.0)
 kept_err (Ok None) at stay goes t q f h = absurd (let g = h.0 in let z : ◌≡◌ {A = ℕ} 0 1 = cc in omega arith)
 kept_err (Ok (Some e)) at stay goes t q f h = absurd (let g = h.2 ∙ ap answered h.1.0 in let z : ◌≡◌ {A = ℕ} 0 1 = cc in omega arith)
 
+kept_ok : (o : Result (Option Event) Refusal) (at : Site) (stay goes : Place) (t : Option Event) (q : Place) (b : Bool) → HandedAs Keeps Same o at stay goes None t q (Ok b) → o ≡ Ok t
+kept_ok (Err g) at stay goes t q b h = absurd h.0
+kept_ok (Ok None) at stay goes t q b h = ap Ok (sym h.1)
+kept_ok (Ok (Some e)) at stay goes t q b h = ap Ok (sym h.1.1)
+
 -- reading the next event is handing it to such a taker
 module _ (bytes : List ℕ) (p q : Place) (t : Option Event) where
   pub next_place : (r : Result Bool Refusal) → Handed Keeps Same bytes p None t q r → q ≡ after bytes p
@@ -56,3 +61,6 @@ module _ (bytes : List ℕ) (p q : Place) (t : Option Event) where
 
   pub next_err : (f : Refusal) → Handed Keeps Same bytes p None t q (Err f) → next bytes p ≡ Err f
   next_err f h = kept_err (next bytes p) (site bytes (inside bytes p)) (inside bytes p) (after bytes p) t q f h
+
+  pub next_ok : (b : Bool) → Handed Keeps Same bytes p None t q (Ok b) → next bytes p ≡ Ok t
+  next_ok b h = kept_ok (next bytes p) (site bytes (inside bytes p)) (inside bytes p) (after bytes p) t q b h

@@ -11,7 +11,7 @@ use Rattle.trace.specs.Codec.{size, decoded, event_at}
 use Rattle.trace.specs.Layout.{count, body_end, good_entry, bad_entry, entries, opening, section_at}
 use Rattle.trace.specs.Reading.{site, placed, taken}
 use Rattle.trace.specs.Refusals.{GoodEntry, Framed, FirstRefusal, too_long, header_cut, other_edition, many_sections, contents_cut, wrong_entry, left_over, Opens, InBody, EventSite, EventFault, no_such_kind, runs_over, EventRefusal}
-use Rattle.trace.proofs.Entries.{body_end_none}
+use Rattle.trace.proofs.Entries.{body_end_none, entries_by}
 use Rattle.trace.proofs.Opened.{Opened, opened, all_good, section_is, size_some}
 
 good_from_test : (bytes : List ℕ) (i : ℕ) → good_entry bytes i ≡ true → GoodEntry bytes i
@@ -98,14 +98,6 @@ first_refusal bytes f e =
     entries_refused bytes f (record { short = ltb-false _ _ short; header = ltb-false _ _ header; edition = eqb-true _ _ (not-false _ edition); few = ltb-false _ _ few; contents = ltb-false _ _ room }) (bad_entry bytes (count bytes) 0) refl e)))))
 
 -- the converse: a file to which a rule applies does not open
-entries_by : (bytes : List ℕ) → Framed bytes → opening bytes ≡ entries bytes (bad_entry bytes (count bytes) 0)
-entries_by bytes framed =
-    cond-false _ _ _ (le-ltb _ _ framed.short)
-    ∙ cond-false _ _ _ (le-ltb _ _ framed.header)
-    ∙ cond-false _ _ _ (not_from_true _ (eq-eqb _ _ framed.edition))
-    ∙ cond-false _ _ _ (le-ltb _ _ framed.few)
-    ∙ cond-false _ _ _ (le-ltb _ _ framed.contents)
-
 pub refusal_opens : (bytes : List ℕ) (f : Refusal) → FirstRefusal bytes f → opening bytes ≡ Some f
 refusal_opens bytes f (too_long a is) = cond-true _ _ _ (lt-ltb _ _ a) ∙ ap Some (sym is)
 refusal_opens bytes f (header_cut a b is) = cond-false _ _ _ (le-ltb _ _ a) ∙ cond-true _ _ _ (lt-ltb _ _ b) ∙ ap Some (sym is)

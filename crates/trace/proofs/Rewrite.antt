@@ -1,9 +1,9 @@
 -- A file that reads whole is the file of what was read. Assumes nothing.
-use Rattle.std.proofs.Common.{◌≡◌, ℕ, zero, suc, ◌+◌, ◌-◌, ◌*◌, ◌<◌, ◌≤◌, cond, eqb, leb, List, [], ◌∷◌, ◌++◌, map, length, get_or, take, drop, None, sum, sym, refl, ap, ◌∙◌, subst, ⊎_elim, add-one, arith}
+use Rattle.std.proofs.Common.{◌≡◌, ℕ, suc, ◌+◌, ◌-◌, ◌*◌, ◌<◌, ◌≤◌, eqb, List, [], ◌∷◌, ◌++◌, map, length, get_or, take, drop, None, sum, sym, refl, ap, ◌∙◌, subst, ⊎_elim, add-one, arith}
 use Rattle.std.proofs.ByRecursion.{All-append, All-map}
-use Rattle.std.proofs.lemmas.List.{map-append, length-append, length-drop, length-take-le, take-append-drop, drop-drop, drop_more, drop_all, nil_from_length}
+use Rattle.std.proofs.lemmas.List.{map-append, length-append, length-drop, take-append-drop, drop-drop, drop_more, drop_all, nil_from_length}
 use Rattle.std.proofs.lemmas.List.Sums.{sum_by-cons}
-use Rattle.std.proofs.lemmas.Bool.{cases_eq, cases_lt, eq-eqb, ne_eqb, cond-true, cond-false, lt-leb, cond_both}
+use Rattle.std.proofs.lemmas.Bool.{cases_eq, cases_lt, eq-eqb, ne_eqb, cond-true, cond-false}
 use Rattle.std.specs.List.{AllByRecursion}
 use Rattle.std.proofs.Math.Seq.{take-add}
 use Rattle.events.specs.declared.Event.{Event}
@@ -12,14 +12,16 @@ use Rattle.trace.specs.declared.place.Place.{Place}
 use Rattle.trace.specs.Words.{bytes_of, word, Bytes}
 use Rattle.events.specs.Kinds.{kind}
 use Rattle.trace.specs.Codec.{operands, event_bytes, size, simple, set_at, action_at, decoded}
-use Rattle.trace.specs.Layout.{count, entry_offset, entry_length, body_end, ended, section_at}
+use Rattle.trace.specs.Layout.{count, entry_offset, entry_length, body_end, section_at}
 use Rattle.trace.specs.Reading.{origin, moved}
 use Rattle.trace.specs.File.{body, contents, file}
 use Rattle.trace.specs.Whole.{Reads, in_section, tagged, Contains}
 use Rattle.trace.proofs.Numbers.{bytes_again}
+use Rattle.trace.proofs.Events.{length_event}
 use Rattle.trace.proofs.Entries.{body_end_none, body_end_more}
 use Rattle.trace.proofs.Opened.{Opened, opened, within, section_is, size_some}
 use Rattle.trace.proofs.Steps.{taken_ok}
+use Rattle.trace.proofs.Refusals.{in_body}
 use Rattle.trace.proofs.Bodies.{body_none, body_cons}
 use Rattle.trace.proofs.Contents.{entry_bytes, contents_none, contents_cons}
 
@@ -50,7 +52,7 @@ first_byte bs b c n h e = ap (take (suc n)) (drop_more bs b 0 h) ∙ ap (λ m. g
 
 module _ (bs : List ℕ) (all : Bytes bs) where
   -- an event's bytes are those that it was read from
-  event_again : (b : ℕ) → get_or bs b 0 < 10 → b + size (get_or bs b 0) ≤ length bs → event_bytes (decoded bs b) ≡ take (size (get_or bs b 0)) (drop b bs)
+  pub event_again : (b : ℕ) → get_or bs b 0 < 10 → b + size (get_or bs b 0) ≤ length bs → event_bytes (decoded bs b) ≡ take (size (get_or bs b 0)) (drop b bs)
   unfolding Single
   event_again b few fits =
       let k = get_or bs b 0 in
@@ -82,31 +84,20 @@ module _ (bs : List ℕ) (all : Bytes bs) where
       ∙ ap (λ l. k ∷ (t ∷ l)) one.1 ∙ sym back ∙ ap (λ n. take n (drop b bs)) (sym long))
       (cases_eq k 9)
 
-  length_event_again : (b : ℕ) → get_or bs b 0 < 10 → b + size (get_or bs b 0) ≤ length bs → length (event_bytes (decoded bs b)) ≡ size (get_or bs b 0)
-  length_event_again b few fits =
-      ap length (event_again b few fits) ∙ length-take-le (size (get_or bs b 0)) (drop b bs) (simp length-drop (omega arith))
+pub length_event_again : (bs : List ℕ) (b : ℕ) → get_or bs b 0 < 10 → length (event_bytes (decoded bs b)) ≡ size (get_or bs b 0)
+unfolding Single
+length_event_again bs b few =
+    let k = get_or bs b 0 in
+    let same : kind (action_at bs k (b + 2)) ≡ k =
+    ⊎_elim
+    (λ nine. ap kind (cond-true (eqb k 9) _ _ (eq-eqb k 9 nine)) ∙ sym nine)
+    (λ other. ap kind (cond-false (eqb k 9) _ _ (ne_eqb k 9 other)) ∙ (single_bytes k (get_or bs (b + 2) 0) (omega arith)).0)
+    (cases_eq k 9) in
+    length_event (decoded bs b) ∙ ap size same
 
 -- a part, and what lies behind it
 part_rest : (bs : List ℕ) (i k j : ℕ) → j ≡ i + k → take k (drop i bs) ++ drop j bs ≡ drop i bs
 part_rest bs i k j e = ap (λ m. take k (drop i bs) ++ drop m bs) e ∙ ap (λ l. take k (drop i bs) ++ l) (sym (drop-drop k i bs)) ∙ take-append-drop k (drop i bs)
-
-ended_le : (bs : List ℕ) (k b : ℕ) → ended bs k b ≤ k
-unfolding ended
-ended_le bs zero b = omega arith
-ended_le bs (suc k) b =
-    let sofar = ended_le bs k b in
-    cond_both (leb (body_end bs (suc k)) b) 1 0 (λ n. ended bs k b + n ≤ suc k) (λ _. omega arith) (λ _. omega arith)
-
--- a byte behind the contents lies in one of the sections
-ended_lt : (bs : List ℕ) (k b : ℕ) → body_end bs 0 ≤ b → b < body_end bs k → ended bs k b < k
-unfolding ended
-ended_lt bs zero b low high = absurd (omega arith)
-ended_lt bs (suc k) b low high =
-    let sofar = ended_le bs k b in
-    subst (λ t. ended bs k b + cond t 1 0 < suc k) (sym (lt-leb (body_end bs (suc k)) b high)) (omega arith)
-
-section_few : (bs : List ℕ) → Opened bs → (b : ℕ) → body_end bs 0 ≤ b → b < length bs → section_at bs b ≤ count bs
-section_few bs opens b low high = let last = ended_lt bs (count bs) b low (omega (arith, opens.whole)) in omega arith
 
 -- sections are numbered upwards
 tags_after : (m s : ℕ) (counts : List ℕ) (es : List Event) → m < s → AllByRecursion (λ t. m < t.0) (tagged s counts es)
@@ -143,7 +134,8 @@ module _ (bs : List ℕ) (all : Bytes bs) (opens : Opened bs) where
       let b = p.byte in
       let k = get_or bs b 0 in
       let ok = taken_ok bs p t.1 r.2 in
-      let end = within opens (section_at bs b) (section_few bs opens b low r.0) in
+      let start = body_end_none bs in
+      let end = within opens (section_at bs b) (in_body bs b opens (omega arith) r.0).last in
       let rest = bodies_again ts (moved bs p) (omega arith) r.3 in
       body_cons t.1 (map (λ t. t.1) ts)
       ∙ ap (λ e. event_bytes e ++ body (map (λ t. t.1) ts)) (sym ok.2)
@@ -172,7 +164,7 @@ module _ (bs : List ℕ) (all : Bytes bs) (opens : Opened bs) where
       let end = within opens s few in
       let n = size_some k in
       let rest = section_ends es ts (moved bs p) s some few (omega arith) fits (omega arith) later r.3 in
-      let long = ap (λ x. length (event_bytes x)) (sym ok.2) ∙ length_event_again bs all b ok.0 (omega arith) in
+      let long = ap (λ x. length (event_bytes x)) (sym ok.2) ∙ length_event_again bs b ok.0 in
       let cons = ap length (body_cons e es) ∙ length-append (event_bytes e) (body es) in
       (rest.0, rest.1, omega (arith, rest.2), rest.3)
 

@@ -10,6 +10,7 @@ use Rattle.trace.specs.declared.whole.ReadError.{ReadError}
 use Rattle.trace.specs.declared.whole.ReadError.TheVariants.{Refused, Memory}
 use Rattle.trace.specs.Layout.{count, body_end, opening, section_at}
 use Rattle.trace.specs.Reading.{origin, taken, moved, found}
+use Rattle.trace.specs.Refusals.{EventRefusal}
 use Rattle.trace.specs.Handing.{HandedAs}
 use Rattle.trace.specs.Whole.{Reads, in_section, tagged, Contains, Onward, Pushed, SectionRead, WholeRead}
 use Rattle.trace.proofs.Entries.{body_end_none}
@@ -28,9 +29,9 @@ pub reads_more : (bytes : List ℕ) (p : Place) (s : ℕ) (e : Event) (ts : List
 unfolding Reads
 reads_more bytes p s e ts o h i t r = (h, i, t, r)
 
-pub reads_fail : (bytes : List ℕ) (p : Place) (f : Refusal) → p.byte < length bytes → taken bytes p ≡ Err f → Reads bytes p [] (Some f)
+reads_fail : (bytes : List ℕ) (p : Place) (f : Refusal) → EventRefusal bytes p f → Reads bytes p [] (Some f)
 unfolding Reads
-reads_fail bytes p f h t = (h, t)
+reads_fail bytes p f refusal = refusal
 
 pub reads_end : (bytes : List ℕ) (p : Place) → length bytes ≤ p.byte → Reads bytes p [] None
 unfolding Reads
@@ -49,8 +50,8 @@ module _ {bytes : List ℕ} {s : ℕ} {p q : Place} {old all : List Event} (sofa
   }
 
   -- the next event is refused
-  pub sofar_fails : (f : Refusal) → taken bytes q ≡ Err f → (ts : List (ℕ × Event)) × Reads bytes p ts (Some f)
-  sofar_fails f t = (in_section s sofar.events ++ [], sofar.onward [] (Some f) (reads_fail bytes q f more t))
+  pub sofar_fails : (f : Refusal) → EventRefusal bytes q f → (ts : List (ℕ × Event)) × Reads bytes p ts (Some f)
+  sofar_fails f refusal = (in_section s sofar.events ++ [], sofar.onward [] (Some f) (reads_fail bytes q f refusal))
 
 -- an event was handed to a taker that keeps each, or it was refused, or there was no memory
 module _ {T : Type 0} (items : T → List Event) where
@@ -136,6 +137,6 @@ module _ {bytes : List ℕ} {s : ℕ} {q : Place} {counts : List ℕ} {events : 
       }
 
 -- what stops a section stops the whole
-pub whole_fails : (bytes : List ℕ) (s : ℕ) (q q' : Place) (counts : List ℕ) (events old all : List Event) → opening bytes ≡ None → Through bytes s q counts events → (y : ReadError) → SectionRead bytes s q q' old all (Err y) → WholeRead bytes (Err y)
-whole_fails bytes s q q' counts events old all e through (Refused f) r = inr (e, through_fails through f r)
-whole_fails bytes s q q' counts events old all e through Memory r = tt
+pub whole_fails : (bytes : List ℕ) (s : ℕ) (q q' : Place) (counts : List ℕ) (events old all : List Event) → Through bytes s q counts events → (y : ReadError) → SectionRead bytes s q q' old all (Err y) → WholeRead bytes (Err y)
+whole_fails bytes s q q' counts events old all through (Refused f) r = inr (through_fails through f r)
+whole_fails bytes s q q' counts events old all through Memory r = tt

@@ -3,9 +3,10 @@
 --   entry_offset, entry_length bytes i   the entry of section i + 1 in the contents
 --   body_end bytes s      where the body of section s ends; the contents end where section 0 would
 --   bad_entry bytes k i   the first of the k entries from i on that is wrong, if any
+--   at_start f b          the refusal for f at byte b before the first event: section and event are 0
 --   opening bytes         the refusal with which the file cannot be opened, if any
 --   section_at bytes b    the section whose body holds byte b
-use Rattle.std.specs.Prelude.{◌≡◌, ℕ, zero, suc, ◌+◌, ◌*◌, ◌≤◌, Bool, cond, not, ◌&&◌, List, length, Some, None, Option, ◌==◌, nat_le, nat_lt}
+use Rattle.std.specs.Prelude.{ℕ, zero, suc, ◌+◌, ◌*◌, Bool, cond, not, ◌&&◌, List, length, Some, None, Option, ◌==◌, nat_le, nat_lt}
 use Rattle.trace.specs.declared.fault.TraceFault.{TraceFault}
 use Rattle.trace.specs.declared.fault.TraceFault.TheVariants.{TooLong, Truncated, Edition, Contents}
 use Rattle.trace.specs.declared.fault.Refusal.{Refusal}
@@ -32,26 +33,17 @@ unfoldable pub bad_entry : List ℕ → ℕ → ℕ → Option ℕ
 bad_entry bytes zero i = None
 bad_entry bytes (suc k) i = cond (good_entry bytes i) (bad_entry bytes k (suc i)) (Some i)
 
--- a fault before the first event
-abbrev pub at_start : TraceFault → ℕ → Option Refusal
-at_start f b = Some (record { fault = f; at = record { section = 0; event = 0; byte = b } })
+abbrev pub at_start : TraceFault → ℕ → Refusal
+at_start f b = record { fault = f; at = record { section = 0; event = 0; byte = b } }
 
 -- the entries' refusal, or that of what follows the last body
 abbrev pub entries : List ℕ → Option ℕ → Option Refusal
-entries bytes (Some i) = at_start Contents (4 + 8 * i)
-entries bytes None = cond (nat_lt (body_end bytes (count bytes)) (length bytes)) (at_start Contents (body_end bytes (count bytes))) None
+entries bytes (Some i) = Some (at_start Contents (4 + 8 * i))
+entries bytes None = cond (nat_lt (body_end bytes (count bytes)) (length bytes)) (Some (at_start Contents (body_end bytes (count bytes)))) None
 
 abbrev pub opening : List ℕ → Option Refusal
 opening bytes =
-    cond (nat_lt 65536 (length bytes)) (at_start TooLong 65536) (cond (nat_lt (length bytes) 4) (at_start Truncated (length bytes)) (cond (not (word 2 bytes 0 == 1)) (at_start Edition 0) (cond (nat_lt 256 (count bytes)) (at_start Contents 2) (cond (nat_lt (length bytes) (4 + 8 * count bytes)) (at_start Truncated (length bytes)) (entries bytes (bad_entry bytes (count bytes) 0))))))
-
--- length, header and room for the contents are right, with n sections; the rest is up to the entries
-pub record Header (bytes : List ℕ) (n : ℕ) : Type 0 where
-  pub sections : n ≡ count bytes
-  pub few : n ≤ 256
-  pub room : 4 + 8 * n ≤ length bytes
-  pub short : length bytes ≤ 65536
-  pub left : opening bytes ≡ entries bytes (bad_entry bytes (count bytes) 0)
+    cond (nat_lt 65536 (length bytes)) (Some (at_start TooLong 65536)) (cond (nat_lt (length bytes) 4) (Some (at_start Truncated (length bytes))) (cond (not (word 2 bytes 0 == 1)) (Some (at_start Edition 0)) (cond (nat_lt 256 (count bytes)) (Some (at_start Contents 2)) (cond (nat_lt (length bytes) (4 + 8 * count bytes)) (Some (at_start Truncated (length bytes))) (entries bytes (bad_entry bytes (count bytes) 0))))))
 
 -- how many of the first k sections end at or before b
 unfoldable pub ended : List ℕ → ℕ → ℕ → ℕ

@@ -6,6 +6,7 @@ pub mod Layout
 pub mod Reading
 pub mod Texts
 pub mod Refusals
+pub mod Answers
 pub mod Handing
 pub mod File
 pub mod Sheets

@@ -1,7 +1,6 @@
 -- What is refused in a trace file, rule by rule: the first rule that applies. Assumes nothing.
 --   GoodEntry bytes i        the body of section i + 1 begins where the previous part ended, and does not pass the file's end
 --   Framed bytes             no rule before the entries applies: length, header, edition, number of sections, room for contents
---   at_front k b             the refusal for k at byte b before the first event: section and event are 0
 --   FirstRefusal bytes f     f is the refusal by the first rule that applies to the file before its first event
 --   Opens bytes              no such rule applies
 --   InBody bytes s b         byte b lies in the body of section s
@@ -16,7 +15,7 @@ use Rattle.trace.specs.declared.fault.Refusal.{Refusal}
 use Rattle.trace.specs.declared.place.Place.{Place}
 use Rattle.trace.specs.Words.{word}
 use Rattle.trace.specs.Codec.{size}
-use Rattle.trace.specs.Layout.{count, entry_offset, entry_length, body_end}
+use Rattle.trace.specs.Layout.{count, entry_offset, entry_length, body_end, at_start}
 
 pub record GoodEntry (bytes : List ℕ) (i : ℕ) : Type 0 where
   pub begins : entry_offset bytes i ≡ body_end bytes i
@@ -29,18 +28,15 @@ pub record Framed (bytes : List ℕ) : Type 0 where
   pub few : count bytes ≤ 256
   pub contents : 4 + 8 * count bytes ≤ length bytes
 
-abbrev pub at_front : TraceFault → ℕ → Refusal
-at_front k b = record { fault = k; at = record { section = 0; event = 0; byte = b } }
-
 -- each rule with what the rules before it did not find
 pub data FirstRefusal (bytes : List ℕ) (f : Refusal) : Type 0 where
-  too_long : 65536 < length bytes → f ≡ at_front TooLong 65536 → FirstRefusal bytes f
-  header_cut : length bytes ≤ 65536 → length bytes < 4 → f ≡ at_front Truncated (length bytes) → FirstRefusal bytes f
-  other_edition : length bytes ≤ 65536 → 4 ≤ length bytes → (word 2 bytes 0 ≢ 1) → f ≡ at_front Edition 0 → FirstRefusal bytes f
-  many_sections : length bytes ≤ 65536 → 4 ≤ length bytes → word 2 bytes 0 ≡ 1 → 256 < count bytes → f ≡ at_front Contents 2 → FirstRefusal bytes f
-  contents_cut : length bytes ≤ 65536 → 4 ≤ length bytes → word 2 bytes 0 ≡ 1 → count bytes ≤ 256 → length bytes < 4 + 8 * count bytes → f ≡ at_front Truncated (length bytes) → FirstRefusal bytes f
-  wrong_entry : Framed bytes → (i : ℕ) → i < count bytes → ((j : ℕ) → j < i → GoodEntry bytes j) → (GoodEntry bytes i → ⊥) → f ≡ at_front Contents (4 + 8 * i) → FirstRefusal bytes f
-  left_over : Framed bytes → ((j : ℕ) → j < count bytes → GoodEntry bytes j) → body_end bytes (count bytes) < length bytes → f ≡ at_front Contents (body_end bytes (count bytes)) → FirstRefusal bytes f
+  too_long : 65536 < length bytes → f ≡ at_start TooLong 65536 → FirstRefusal bytes f
+  header_cut : length bytes ≤ 65536 → length bytes < 4 → f ≡ at_start Truncated (length bytes) → FirstRefusal bytes f
+  other_edition : length bytes ≤ 65536 → 4 ≤ length bytes → (word 2 bytes 0 ≢ 1) → f ≡ at_start Edition 0 → FirstRefusal bytes f
+  many_sections : length bytes ≤ 65536 → 4 ≤ length bytes → word 2 bytes 0 ≡ 1 → 256 < count bytes → f ≡ at_start Contents 2 → FirstRefusal bytes f
+  contents_cut : length bytes ≤ 65536 → 4 ≤ length bytes → word 2 bytes 0 ≡ 1 → count bytes ≤ 256 → length bytes < 4 + 8 * count bytes → f ≡ at_start Truncated (length bytes) → FirstRefusal bytes f
+  wrong_entry : Framed bytes → (i : ℕ) → i < count bytes → ((j : ℕ) → j < i → GoodEntry bytes j) → (GoodEntry bytes i → ⊥) → f ≡ at_start Contents (4 + 8 * i) → FirstRefusal bytes f
+  left_over : Framed bytes → ((j : ℕ) → j < count bytes → GoodEntry bytes j) → body_end bytes (count bytes) < length bytes → f ≡ at_start Contents (body_end bytes (count bytes)) → FirstRefusal bytes f
 
 abbrev pub Opens : List ℕ → Type 0
 Opens bytes = (f : Refusal) → FirstRefusal bytes f → ⊥

@@ -12,11 +12,12 @@ use Rattle.trace.specs.declared.whole.ReadError.{ReadError}
 use Rattle.trace.specs.declared.whole.ReadError.TheVariants.{Refused, Memory}
 use Rattle.trace.specs.Layout.{count, body_end, opening, section_at}
 use Rattle.trace.specs.Reading.{origin, taken, moved}
+use Rattle.trace.specs.Refusals.{FirstRefusal, EventRefusal}
 use Rattle.trace.specs.File.{file}
 
 unfoldable pub Reads : List ℕ → Place → List (ℕ × Event) → Option Refusal → Type 0
 Reads bytes p [] None = length bytes ≤ p.byte
-Reads bytes p [] (Some f) = (p.byte < length bytes) × (taken bytes p ≡ Err f)
+Reads bytes p [] (Some f) = EventRefusal bytes p f
 Reads bytes p (t ∷ ts) o =
     (p.byte < length bytes) × (section_at bytes p.byte ≡ t.0) × (taken bytes p ≡ Ok t.1) × Reads bytes (moved bytes p) ts o
 
@@ -35,7 +36,7 @@ pub record Contains (bytes counts : List ℕ) (events : List Event) : Type 0 whe
   pub reads : Reads bytes (origin bytes) (tagged 1 counts events) None
 
 abbrev pub Refuses : List ℕ → Refusal → Type 0
-Refuses bytes f = (opening bytes ≡ Some f) ⊎ ((opening bytes ≡ None) × ((ts : List (ℕ × Event)) × Reads bytes (origin bytes) ts (Some f)))
+Refuses bytes f = FirstRefusal bytes f ⊎ ((ts : List (ℕ × Event)) × Reads bytes (origin bytes) ts (Some f))
 
 -- one event more, or want of memory, and then the list as it was
 abbrev pub Pushed : List Event → Event → Result (Unit {0}) ReadError → List Event → Type 0

@@ -2,7 +2,8 @@
 ghost use Rattle.std.specs.Prelude.{◌≡◌, ◌+◌, ◌*◌, ◌<◌, ◌≤◌, true, false, length, Some, None, MatchResult};
 ghost use Rattle.trace.specs.declared.fault.TraceFault.TheVariants.{Contents};
 ghost use Rattle.trace.specs.Words.{word};
-ghost use Rattle.trace.specs.Layout.{count, entry_offset, entry_length, body_end, good_entry, at_start, opening, Header};
+ghost use Rattle.trace.specs.Layout.{count, entry_offset, entry_length, body_end, good_entry, at_start, opening};
+ghost use Rattle.trace.specs.Refusals.{Framed};
 
 use crate::fault::{Refusal, Site, TraceFault};
 use crate::words::chunk;
@@ -21,7 +22,7 @@ pub(crate) const MOST_SECTIONS: usize = 256;
 
 // A refusal before the first event.
 fn early(fault: TraceFault, byte: usize) -> Refusal
-    ensures { Some result ≡ at_start fault byte }
+    ensures { result ≡ at_start fault byte }
 {
     Refusal {
         fault,
@@ -51,7 +52,7 @@ pub(crate) fn section_count(bytes: &[u8]) -> usize
 
 // Checks length, header and the room for the contents, and tells the number of sections.
 pub(crate) fn check_header(bytes: &[u8]) -> Result<usize, Refusal>
-    ensures { MatchResult result (λ n. Header bytes.now n) (λ f. opening bytes.now ≡ Some f) }
+    ensures { MatchResult result (λ n. (n ≡ count bytes.now) × Framed bytes.now) (λ f. opening bytes.now ≡ Some f) }
 {
     let len = bytes.len();
     if len > LONGEST {
@@ -104,7 +105,7 @@ impl Entry {
 fn entry_end(bytes: &[u8], i: usize, end: usize) -> Result<usize, Refusal>
     requires i_in_bounds { 12 + 8 * i ≤ length bytes.now }
     requires end_value { end ≡ body_end bytes.now i }
-    ensures { MatchResult result (λ e. (good_entry bytes.now i ≡ true) × (e ≡ end + entry_length bytes.now i) × (e ≤ length bytes.now)) (λ f. (good_entry bytes.now i ≡ false) × (Some f ≡ at_start Contents (4 + 8 * i))) }
+    ensures { MatchResult result (λ e. (good_entry bytes.now i ≡ true) × (e ≡ end + entry_length bytes.now i) × (e ≤ length bytes.now)) (λ f. (good_entry bytes.now i ≡ false) × (f ≡ at_start Contents (4 + 8 * i))) }
 {
     let entry = Entry::read(bytes, i);
     if entry.offset as usize == end && entry.end() <= bytes.len() {
@@ -116,7 +117,7 @@ fn entry_end(bytes: &[u8], i: usize, end: usize) -> Result<usize, Refusal>
 
 // Checks each entry of the contents, and that the file ends with the last body.
 pub(crate) fn check_entries(bytes: &[u8], sections: usize) -> Result<(), Refusal>
-    requires { Header bytes.now sections }
+    requires { (sections ≡ count bytes.now) × Framed bytes.now }
     ensures { MatchResult result (λ _. opening bytes.now ≡ None) (λ f. opening bytes.now ≡ Some f) }
 {
     let mut end = 4 + 8 * sections;

@@ -1,8 +1,9 @@
 // Opening a file and reading its events, one after another.
-ghost use Rattle.std.specs.Prelude.{◌≡◌, ◌+◌, ◌-◌, ◌<◌, ◌≤◌, ◌⊎◌, length, Some, None, MatchResult, IfErr};
+ghost use Rattle.std.specs.Prelude.{◌≡◌, ◌+◌, ◌-◌, ◌<◌, ◌≤◌, length, Some, None, MatchResult};
 ghost use Rattle.trace.specs.Layout.{count, body_end, opening, section_at};
 ghost use Rattle.trace.specs.Reading.{origin, outside, sections_or, inside, next, after};
-ghost use Rattle.trace.specs.Refusals.{FirstRefusal, EventRefusal, Opens};
+ghost use Rattle.trace.specs.Refusals.{FirstRefusal, Opens};
+ghost use Rattle.trace.specs.Answers.{Answers};
 
 use crate::fault::Refusal;
 use crate::layout::{Entry, check_entries, check_header, section_count};
@@ -88,7 +89,7 @@ impl<'a> Reader<'a> {
     // The next event, if there is one. Only an event that is taken moves a reader inside the file.
     pub fn next(&mut self) -> Result<Option<Event>, Refusal>
         ensures answer { result ≡ next self.old.bytes.now self.old.at }
-        ensures rule { IfErr result (λ f. FirstRefusal self.old.bytes.now f ⊎ EventRefusal self.old.bytes.now (inside self.old.bytes.now self.old.at) f) }
+        ensures rule { Answers self.old.bytes.now (inside self.old.bytes.now self.old.at) self.new.at result }
         ensures place { self.new.at ≡ after self.old.bytes.now self.old.at }
         ensures bytes { self.new.bytes.now ≡ self.old.bytes.now }
     {

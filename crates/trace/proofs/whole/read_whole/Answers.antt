@@ -1,9 +1,10 @@
-use Rattle.std.proofs.Common.{◌≡◌, ◌-◌, ◌<◌, is_ok, None, Err, vec_items, sym, ap, ◌∙◌, subst, arith}
+use Rattle.std.proofs.Common.{◌≡◌, ◌-◌, ◌<◌, is_ok, None, Err, vec_items, sym, ap, ◌∙◌, subst, inl, arith}
 use Rattle.std.proofs.ResultArms.{chosen}
 use Rattle.std.proofs.ByRecursion.{All-from_get_or}
 use Rattle.std.proofs.lemmas.Result.{err_from_is_err_and}
 use Rattle.trace.specs.Layout.{count, body_end, opening}
 use Rattle.trace.specs.Reading.{origin, sections_or, inside}
+use Rattle.trace.specs.Refusals.{FirstRefusal}
 use Rattle.trace.specs.Whole.{Contains, SectionRead, WholeRead}
 use Rattle.trace.proofs.Opened.{ends_ordered}
 use Rattle.trace.proofs.Steps.{entered_ok}
@@ -21,6 +22,12 @@ opens c =
     let told = c.contents.ensures in
     let first = entered_ok bs c.in_ok-sections.sections (ap (λ b. sections_or b (opening b)) (sym same) ∙ sym told.answer ∙ c.in_ok-sections.was) in
     (first.0, first.1, told.place ∙ ap (λ b. inside b c.new-reader.result.at) same ∙ ap (inside bs) c.new-reader.ensures.1 ∙ first.2)
+
+pub returns-in_err-sections : goal.returns-in_err-sections
+returns-in_err-sections c =
+    let p = err_from_is_err_and c.from_residual.result c.from_residual.ensures.1 in
+    let refused = subst (λ b. FirstRefusal b c.in_err-sections.field-0.0) c.new-reader.ensures.0 c.in_err-sections.ensures.rule in
+    subst (WholeRead c.args.bytes.now) (sym (p.1 ∙ ap Err p.2)) (inl refused)
 
 pub loop-section-init : goal.loop-section-init
 loop-section-init c =
@@ -49,14 +56,13 @@ take_section-requires c =
 pub returns-in_err-take_section : goal.returns-in_err-take_section
 returns-in_err-take_section c =
     let p = err_from_is_err_and c.from_residual-in_err-take_section.result c.from_residual-in_err-take_section.ensures.1 in
-    let first = opens (goal.at.returns-in_err-take_section c).In_ok-sections in
     let bs = c.args.bytes.now in
     let inv = c.loop-section.invariant in
     let y = c.in_err-take_section.field-0.0 in
     let q = c.loop-section.reader.at in
     let q' = c.take_section.new.self.at in
     let section = subst (λ b. SectionRead b c.loop-section.section q q' (vec_items c.loop-section.events) (vec_items c.take_section.new.events) (Err y)) inv.0 c.in_err-take_section.ensures.section in
-    subst (WholeRead bs) (sym (p.1 ∙ ap Err p.2)) (whole_fails bs c.loop-section.section q q' (vec_items c.loop-section.counts) (vec_items c.loop-section.events) (vec_items c.loop-section.events) (vec_items c.take_section.new.events) first.0 inv.2 y section)
+    subst (WholeRead bs) (sym (p.1 ∙ ap Err p.2)) (whole_fails bs c.loop-section.section q q' (vec_items c.loop-section.counts) (vec_items c.loop-section.events) (vec_items c.loop-section.events) (vec_items c.take_section.new.events) inv.2 y section)
 
 pub loop-section-preserved : goal.loop-section-preserved
 loop-section-preserved c =

@@ -1,11 +1,13 @@
-use Rattle.std.proofs.Common.{◌+◌, ◌≤◌, length, get_or, Err, vec_items, sym, ap, ◌∙◌, subst, arith}
+use Rattle.std.proofs.Common.{◌+◌, ◌-◌, ◌*◌, ◌<◌, ◌≤◌, length, get_or, Err, vec_items, sym, ap, ◌∙◌, subst, arith}
 use Rattle.std.proofs.lemmas.Result.{err_from_is_err_and}
 use Rattle.trace.specs.Codec.{size}
-use Rattle.trace.specs.Layout.{body_end}
+use Rattle.trace.specs.Layout.{count, body_end, opening}
 use Rattle.trace.specs.Reading.{site, taken, moved}
 use Rattle.trace.specs.Whole.{SectionRead}
-use Rattle.trace.proofs.Opened.{opened_inside, within, section_is}
+use Rattle.trace.proofs.Entries.{body_end_none}
+use Rattle.trace.proofs.Opened.{opened_inside, within, ends_ordered, none_from, section_is}
 use Rattle.trace.proofs.Steps.{taken_ok}
+use Rattle.trace.proofs.Refusals.{event_refusal}
 use Rattle.trace.proofs.Sections.{sofar_more, sofar_fails, pushed_ok, pushed_err}
 use Rattle.trace.proofs.reader.Reader.take_section.Goals as goal
 
@@ -29,7 +31,12 @@ returns-in_err-hand_event c =
     let all = vec_items c.hand_event.new.taker in
     let file = opened_inside self.bytes.now (self.opened c.requires.byte_nonzero.0) in
     let end = within file c.args.section c.requires.byte_nonzero.1.1 in
-    let failed = pushed_err vec_items (taken held q) (site held q) q (moved held q) q' c.loop-self.events c.hand_event.new.taker c.in_err-hand_event.field-0.0 (λ y. SectionRead self.bytes.now c.args.section self.at q' (vec_items c.args.events.now) all (Err y)) c.in_err-hand_event.ensures.handed (λ f t. sofar_fails inv.4 (omega arith) f (sym (ap (λ b. taken b q) inv.0) ∙ t)) tt in
+    let none = none_from (opening self.bytes.now) (self.opened c.requires.byte_nonzero.0) in
+    let start = body_end_none self.bytes.now in
+    let rise = ends_ordered self.bytes.now 0 (c.args.section - 1) (omega arith) in
+    let low : 4 + 8 * count self.bytes.now ≤ q.byte = omega (arith, inv.2) in
+    let more : q.byte < length self.bytes.now = omega arith in
+    let failed = pushed_err vec_items (taken held q) (site held q) q (moved held q) q' c.loop-self.events c.hand_event.new.taker c.in_err-hand_event.field-0.0 (λ y. SectionRead self.bytes.now c.args.section self.at q' (vec_items c.args.events.now) all (Err y)) c.in_err-hand_event.ensures.handed (λ f t. sofar_fails inv.4 more f (event_refusal self.bytes.now q f none low more (sym (ap (λ b. taken b q) inv.0) ∙ t))) tt in
     record {
       bytes = c.hand_event.ensures.bytes ∙ inv.0;
       section = subst (SectionRead self.bytes.now c.args.section self.at q' (vec_items c.args.events.now) all) (sym (p.1 ∙ ap Err p.2)) failed;
