@@ -8,8 +8,8 @@ use Rattle.order.specs.Conflicts.{RaceFree}
 use Rattle.order.specs.Faults.{Lawful}
 use Rattle.order.specs.Judgement.{Answer, accepted, refused, declined, judge, recorded}
 use Rattle.order.specs.Verdicts.{Right}
-use Rattle.order.proofs.Judgement.{right_at, accepted_free, accepted_lawful}
-use Rattle.order.proofs.Rearrangements.{own_order, same_reads}
+use Rattle.order.proofs.Judgement.{right_at, recorded_sound}
+use Rattle.monitor.proofs.Sessions.{sound_from}
 use Rattle.roster.specs.Numbers.{fault_number}
 use Rattle.trace.specs.declared.fault.Refusal.{Refusal}
 use Rattle.trace.specs.declared.fault.Site.{Site}
@@ -28,17 +28,6 @@ use Rattle.certificate.specs.declared.finding.Finding.{Finding}
 use Rattle.certificate.specs.Running.{recorded_all, listed, Passes, Halts, Outcome, StopsAs, Runs}
 use Rattle.certificate.specs.Sentence.{NamesRace, EndsBy, EndsRightly, ReadOut, Sentence}
 use Rattle.certificate.proofs.Ahead.{counted}
-
--- the record stays lawful and race-free
-next_lawful : (rec : List Event) (e : Event) → Lawful rec → RaceFree rec → (a : Answer) → judge rec e ≡ a → Lawful (recorded rec e a)
-next_lawful rec e lawful free (accepted s) h = accepted_lawful rec e lawful free s h
-next_lawful rec e lawful free (refused k) h = lawful
-next_lawful rec e lawful free (declined p w) h = lawful
-
-next_free : (rec : List Event) (e : Event) → Lawful rec → RaceFree rec → (a : Answer) → judge rec e ≡ a → RaceFree (recorded rec e a)
-next_free rec e lawful free (accepted s) h = accepted_free rec e lawful free s h
-next_free rec e lawful free (refused k) h = free
-next_free rec e lawful free (declined p w) h = free
 
 -- a finding more is rightly listed
 listed_right : (Q : Finding → Type 0) (fs : List Finding) (n : ℕ) (rec : List Event) (e : Event) (a : Answer) → AllByRecursion Q fs → Right rec e a → ((p w : ℕ) → Right rec e (declined p w) → Q (record { event = n; place = p; witness = w })) → AllByRecursion Q (listed fs n a)
@@ -92,11 +81,12 @@ known bytes p rec fs [] o Q begun lawful free all found stops = record {
 known bytes p rec fs (e ∷ es) o Q begun lawful free all found (reads, passes, runs) =
     let a = judge rec e in
     let right = right_at rec e lawful free a refl in
+    let kept = recorded_sound rec e lawful free in
     let n = (inside bytes p).events in
     let count = counted bytes p e reads in
     let here : (q w : ℕ) → Right rec e (declined q w) → Q (record { event = n + 1; place = q; witness = w }) = λ q w r. found _ (record { earlier = []; event = e; later = es; stands_in = refl; numbered = omega arith; real = r }) in
     let later : (f : Finding) → NamesRace (recorded rec e a) (inside bytes (after bytes p)).events es f → Q f = λ f r. found f (record { earlier = e ∷ r.earlier; event = r.event; later = r.later; stands_in = ap (λ l. e ∷ l) r.stands_in; numbered = omega (arith, r.numbered); real = r.real }) in
-    let rest = known bytes (after bytes p) (recorded rec e a) (listed fs (n + 1) a) es o Q (begun_after bytes p begun e reads) (next_lawful rec e lawful free a refl) (next_free rec e lawful free a refl) (listed_right Q fs (n + 1) rec e a all right here) later runs in
+    let rest = known bytes (after bytes p) (recorded rec e a) (listed fs (n + 1) a) es o Q (begun_after bytes p begun e reads) kept.0 kept.1 (listed_right Q fs (n + 1) rec e a all right here) later runs in
     record { record_is = rest.record_is; lawful = rest.lawful; free = rest.free; races = rest.races; first = rest.first }
 
 -- each event that was read is counted
@@ -165,7 +155,7 @@ sentence bytes p rec es o begun lawful free runs =
     let all = known bytes p rec [] es o (NamesRace rec (inside bytes p).events es) begun lawful free tt (λ f r. r) runs in
     record {
       record_is = all.record_is;
-      sound = record { ordered = all.free; reads = same_reads o.recorded_as all.free; own = own_order o.recorded_as };
+      sound = sound_from o.recorded_as all.lawful all.free;
       clean = λ end none. all.record_is ∙ all_accepted bytes p rec [] es o none runs;
       races = all.races;
       counted = all_counted bytes p rec [] es o runs;

@@ -5,10 +5,12 @@ use Rattle.events.specs.declared.Event.{Event}
 use Rattle.keepers.specs.declared.keeper.Keeper.{Ghosts}
 use Rattle.order.specs.Conflicts.{RaceFree}
 use Rattle.order.specs.Examples.{answers, examples}
+use Rattle.order.specs.Faults.{Lawful}
 use Rattle.order.specs.Judgement.{recorded}
 use Rattle.order.proofs.Examples.{as_worked}
 use Rattle.order.proofs.Judgement.{right_at}
 use Rattle.order.proofs.Rearrangements.{own_order, same_reads}
+use Rattle.order.proofs.Roster.{holder_runs}
 use Rattle.monitor.specs.declared.monitor.Monitor.{Monitor}
 use Rattle.std.proofs.ByRecursion.{All-weaker}
 use Rattle.std.specs.List.{AllByRecursion}
@@ -28,9 +30,10 @@ offered_right e v judges rec stands =
     let answer = judges rec stands in
     (record { judged = answer.0; right = right_at rec e stands.lawful stands.free (told v) (sym answer.0) }, answer.1)
 
--- a race-free record is sound
-sound : (rec : List Event) → RaceFree rec → Sound rec
-sound rec free = record { ordered = free; reads = same_reads rec free; own = own_order rec }
+-- a lawful and race-free record is sound
+pub sound_from : (rec : List Event) → Lawful rec → RaceFree rec → Sound rec
+sound_from rec lawful free =
+    record { ordered = free; holders = λ l t h. (holder_runs rec lawful l t h).1; reads = same_reads rec free; own = own_order rec }
 
 record_push : (rec : List Event) (cs : List Call) (rs : List Reply) (c : Call) (r : Reply) → Promise rec cs rs → record_after rec (cs ++ (c ∷ [])) (rs ++ (r ∷ [])) ≡ after (record_after rec cs rs) c r
 unfolding Promise record_after
@@ -64,7 +67,7 @@ module _ {K : Type 0} {its : Ghosts K} {all rest : List Call} {rs : List Reply} 
       record {
         made = sofar.made ++ (c ∷ []);
         split = sofar.split ∙ ap (λ l. sofar.made ++ l) first ∙ sym (append_assoc sofar.made (c ∷ []) rest');
-        promise = subst (Promise [] (sofar.made ++ (c ∷ []))) (sym push) (promise_push [] sofar.made rs c r sofar.promise step.0 (sound _ step.1.free));
+        promise = subst (Promise [] (sofar.made ++ (c ∷ []))) (sym push) (promise_push [] sofar.made rs c r sofar.promise step.0 (sound_from _ step.1.lawful step.1.free));
         stands = subst (λ l. Stands l m') (sym (ap (record_after [] (sofar.made ++ (c ∷ []))) push ∙ record_push [] sofar.made rs c r sofar.promise)) step.1;
       }
 

@@ -6,16 +6,16 @@ use Rattle.events.specs.declared.Event.{Event}
 use Rattle.keepers.specs.declared.keeper.Keeper.{Ghosts}
 use Rattle.keepers.specs.Meaning.{cleared}
 use Rattle.keepers.proofs.Laws.{sets_cleared, passes_cleared}
-use Rattle.order.specs.Cells.{Cell, cell_race, cell_verdict}
+use Rattle.order.specs.Cells.{Cell, cell_race}
 use Rattle.order.specs.Faults.{fault, faults, record_full}
 use Rattle.order.specs.Judgement.{accepted, refused, declined, Finding, judge, ruled}
 use Rattle.order.specs.Questions as questions
 use Rattle.order.specs.Questions.{cell_told}
 use Rattle.order.proofs.Questions.{told_by_cell}
-use Rattle.order.specs.Slots.{nobody, changed, worked}
+use Rattle.order.specs.Slots.{changed}
 use Rattle.order.specs.Verdicts.{NoFault}
 use Rattle.order.specs.Work.{calls, passes_of}
-use Rattle.order.proofs.Cells.{judge_by_cells, cell_start, cell_step}
+use Rattle.order.proofs.Cells.{judge_by_cells, cell_start, cell_step, cell_verdict}
 use Rattle.order.proofs.Faults.{no_fault_iff}
 use Rattle.order.proofs.Judgement.{judge_refused, right_at, accepted_free, accepted_lawful, nothing_races}
 use Rattle.order.proofs.PassCounts.{passes_of_few, passes_by_few}
@@ -34,6 +34,7 @@ use Rattle.monitor.specs.declared.monitor.Monitor.{Monitor}
 use Rattle.monitor.specs.declared.verdict.Access.{Access}
 use Rattle.monitor.specs.Answers.{slot_of, no_reader, asked}
 use Rattle.monitor.specs.Stands.{Stands}
+use Rattle.order.proofs.Passes.{worked, nobody}
 
 -- a monitor over a cleared keeper, with a new roster and no serials
 pub stands_none : {K : Type 0} {its : Ghosts K} (m : Monitor K its) → m.accepted ≡ 0 → Fresh m.roster → its.live m.slots.keeper → its.meaning m.slots.keeper ≡ cleared → ((p k : ℕ) → serial_at m.slots.serials p k ≡ 0) → Stands [] m

@@ -5,12 +5,13 @@
 --   Sound rec            what the certificate says of a record
 --   AnsweredAs cs rs x   the calls that a worked example lists are answered as it lists
 --   Promise rec cs rs    each reply is right, and after each call the record is sound
-use Rattle.std.specs.Prelude.{◌≡◌, List, [], ◌∷◌, map, length}
+use Rattle.std.specs.Prelude.{◌≡◌, ℕ, true, List, [], ◌∷◌, map, length, Some}
 use Rattle.events.specs.declared.Event.{Event}
 use Rattle.order.specs.Conflicts.{RaceFree}
 use Rattle.order.specs.Examples.{Example}
 use Rattle.order.specs.Judgement.{Answer, judge, recorded}
 use Rattle.order.specs.Rearrangements.{Rearrangement, positions, SameReads}
+use Rattle.order.specs.Records.{running, lock_holder}
 use Rattle.order.specs.Verdicts.{Right}
 use Rattle.monitor.specs.declared.session.Call.{Call}
 use Rattle.monitor.specs.declared.session.Call.TheVariants.{Offer, Commit, Count, Ask}
@@ -59,6 +60,8 @@ RightReply rec (Ask q) (Counted n) = ⊥
 pub record Sound (rec : List Event) : Type 0 where
   -- of any two conflicting accesses one is ordered before the other
   pub ordered : RaceFree rec
+  -- a lock's holder is a running thread
+  pub holders : (l t : ℕ) → lock_holder rec l ≡ Some t → running rec t ≡ true
   -- in every rearrangement that keeps thread order and hand-overs each read has the same latest write
   pub reads : SameReads rec
   -- and the record's own order is one of these

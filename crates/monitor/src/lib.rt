@@ -11,5 +11,8 @@ mod verdict;
 pub use monitor::Monitor;
 pub use session::{Call, Reply, Session, abandon_all, answer_all};
 pub use slip::Slip;
-pub use theorems::{commits_pass_twice, examples_are_judged, order_is_decided};
+pub use theorems::{
+    commits_pass_twice, examples_are_judged, one_answer_is_right, order_is_decided,
+    reached_is_ordered, slots_stand_for_latest,
+};
 pub use verdict::{Access, Question, Verdict};

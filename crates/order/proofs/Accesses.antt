@@ -55,13 +55,6 @@ module _ (rec : List Event) (p n i : ℕ) where
   write_conflicts j t w = record { first = t; second = write_in_touches w; write = or_right _ _ w }
 
 module _ (rec : List Event) (e : Event) (p n i j : ℕ) (l : i < length rec) (m : j < length rec) where
-  pub conflict_longer : Conflict rec p n i j → Conflict (e ∷ rec) p n i j
-  conflict_longer c = record {
-    first = holds_at_past rec e i _ l ∙ c.first;
-    second = holds_at_past rec e j _ m ∙ c.second;
-    write = (λ d. holds_at_past rec e i (in_life writes_place p n) l d || holds_at_past rec e j (in_life writes_place p n) m d) ∙ c.write;
-  }
-
   pub conflict_shorter : Conflict (e ∷ rec) p n i j → Conflict rec p n i j
   conflict_shorter c = record {
     first = sym (holds_at_past rec e i _ l) ∙ c.first;

@@ -8,20 +8,19 @@ use Rattle.order.specs.Searches.{or_else}
 use Rattle.order.specs.Order.{ordered}
 use Rattle.order.specs.Conflicts.{RaceFree}
 use Rattle.order.specs.Faults.{fault}
-use Rattle.order.specs.Judgement.{unordered, Finding, found, race, verdict, ruled, judge}
+use Rattle.order.specs.Judgement.{unordered, Finding, found, race, verdict, ruled, judge, Answer, accepted, declined}
 use Rattle.order.specs.Verdicts.{NoFault, Before}
 use Rattle.order.specs.Holders.{Holder, of_thread, Reached, holder_number, InRange}
-use Rattle.order.specs.Slots.{Set, nobody, slot_access, begins, forgets, changed, taken, worked, SlotSet}
-use Rattle.order.specs.SlotSearch.{slot_read, slot_witness, slot_race}
-use Rattle.order.specs.Cells.{serial_of, Cell, some_in, arrived, pending, cell_read, cell_witness, cell_race, cell_verdict}
+use Rattle.order.specs.Slots.{Set, slot_access, begins, forgets, changed, taken, SlotSet}
+use Rattle.order.specs.Cells.{serial_of, Cell, some_in, arrived, pending, cell_read, cell_witness, cell_race}
 use Rattle.order.proofs.Options.{mapped, mapped_or_else, mapped_cond}
 use Rattle.order.proofs.Searches.{first_from_same, first_from_mapped}
 use Rattle.order.proofs.Chains.{ordered_decides}
 use Rattle.order.proofs.Reach.{ordered_iff_reached}
 use Rattle.order.proofs.Faults.{thread_range, fault_cases}
 use Rattle.order.proofs.Slots.{slot_access_step, slot_access_within, slot_access_none}
-use Rattle.order.proofs.SlotWitness.{race_by_slots}
-use Rattle.order.proofs.Passes.{has, SomeIn}
+use Rattle.order.proofs.SlotWitness.{race_by_slots, slot_read, slot_witness, slot_race}
+use Rattle.order.proofs.Passes.{has, SomeIn, worked, nobody}
 use Rattle.order.proofs.HolderNumbers.{takes_range, taken_of, taken_or_own, takes_own}
 use Rattle.order.proofs.Sets.{in_slot_iff, nobody_in, slot_set_step}
 
@@ -52,6 +51,11 @@ by_serial f = record { place = f.place; witness = f.witness + 1 }
 found_by_serial : (p : ℕ) (o : Option ℕ) → mapped by_serial (found p o) ≡ found p (mapped (λ w. w + 1) o)
 found_by_serial p None = refl
 found_by_serial p (Some w) = refl
+
+-- the verdict on a search's finding, which names its witness by the serial
+abbrev pub cell_verdict : ℕ → Option Finding → Answer
+cell_verdict count None = accepted (count + 1)
+cell_verdict count (Some f) = declined f.place f.witness
 
 verdict_by_serial : (m : ℕ) (o : Option Finding) → verdict m o ≡ cell_verdict m (mapped by_serial o)
 verdict_by_serial m None = refl

@@ -5,7 +5,7 @@ use Rattle.events.specs.declared.Event.{Event}
 use Rattle.order.specs.Records.{Test, holds_at}
 use Rattle.order.specs.Order.{pair, hands_over, same_thread, linked, Step, Chain, one, more, Ordered, ordered}
 use Rattle.order.proofs.Searches.{some_below_found, some_below_from}
-use Rattle.order.proofs.Records.{holds_at_last, holds_at_past, at_position}
+use Rattle.order.proofs.Records.{holds_at_past, at_position}
 
 pub chain_append : {R : ℕ → ℕ → Type 0} {i j k : ℕ} → Chain R i j → Chain R j k → Chain R i k
 chain_append c (one s) = more c s
@@ -36,11 +36,6 @@ link past a past' b = eqb a.thread b.thread || pair past a past' b
 pub linked_is : (rec : List Event) (i j : ℕ) (past past' : List Event) (a b : Event) → ((f : Test) → holds_at rec i f ≡ f past a) → ((f : Test) → holds_at rec j f ≡ f past' b) → linked rec i j ≡ link past a past' b
 unfolding linked hands_over same_thread
 linked_is rec i j past past' a b p q = rw (p, p, q, q)
-
-pub linked_last : (rec : List Event) (e : Event) (i : ℕ) → i < length rec → linked (e ∷ rec) i (length rec) ≡ holds_at rec i (λ past a. link past a rec e)
-linked_last rec e i l =
-    let here = at_position rec i l in
-    linked_is (e ∷ rec) i (length rec) here.0 rec here.1 e (λ f. holds_at_past rec e i f l ∙ here.2 f) (holds_at_last rec e) ∙ sym (here.2 _)
 
 pub linked_past : (rec : List Event) (e : Event) (i j : ℕ) → i < length rec → j < length rec → linked (e ∷ rec) i j ≡ linked rec i j
 linked_past rec e i j l m =

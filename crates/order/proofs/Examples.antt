@@ -1,6 +1,6 @@
 -- The ten short runs are answered as the table says, by computing. Assumes nothing.
 use Rattle.std.proofs.Common.{refl}
-use Rattle.order.specs.Computing.{judging}
+use Rattle.order.proofs.Computing.{judging}
 use Rattle.order.specs.Examples.{answers, examples, AsWorked}
 
 pub as_worked : AsWorked

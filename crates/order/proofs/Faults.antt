@@ -1,14 +1,14 @@
 -- The refusal of an event is the first number that applies; and the ranges that no refusal leaves. Assumes nothing.
 use Rattle.std.proofs.Common.{◌≡◌, ℕ, ◌<◌, Bool, true, false, cond, ◌&&◌, ◌||◌, ltb, leb, ◌⊎◌, ◌↔◌, List, [], ◌∷◌, length, Some, None, Option, sym, refl, ap, ◌∙◌, subst, inl, inr, zero-add, arith}
-use Rattle.std.proofs.lemmas.Bool.{or_parts, and_cases, leb-false, both_ways, cases_order, cases_eq, lt-ltb, or_left, or_right, or_cases, and_parts}
+use Rattle.std.proofs.lemmas.Bool.{or_parts, and_cases, leb-false, both_ways, cases_eq, lt-ltb, or_left, or_right, or_cases, and_parts}
 use Rattle.events.specs.declared.Event.{Event}
 use Rattle.events.specs.Places.{member}
-use Rattle.order.specs.Acts.{is, operand, write_set, read_set, does, writes_place, reads_place, touches}
+use Rattle.order.specs.Acts.{is, operand, acquires, write_set, read_set, does, writes_place, reads_place, touches}
 use Rattle.order.specs.Records.{holds_at}
 use Rattle.order.specs.Faults.{no_such_thread, no_such_thing, not_running, forked_before, joins_amiss, lock_held, lock_not_held, joined_holds, record_full, faults, faults_of, rule, fault, Lawful}
 use Rattle.order.specs.Searches.{first_true}
 use Rattle.order.specs.Verdicts.{FirstFault, NoFault}
-use Rattle.order.proofs.Options.{same_some, some_not_none}
+use Rattle.order.proofs.Options.{some_not_none}
 use Rattle.order.proofs.Searches.{first_true_cases}
 use Rattle.order.proofs.Acts.{does_parts, member_place}
 use Rattle.order.proofs.Records.{holds_at_last, holds_at_past}
@@ -21,25 +21,6 @@ module _ (rec : List Event) (e : Event) where
         | inl r ↦ inl (r.0, r.1 ∙ ap {B = Option ℕ} Some (zero-add r.0), record { holds = r.2; first = r.3 })
         | inr r ↦ inr (r.0, r.1)
       ]
-
-  pub fault_iff : (n : ℕ) → (fault rec e ≡ Some n) ↔ FirstFault rec e n
-  fault_iff n = (
-    λ h.
-        elim fault_cases [
-          | inl r ↦ subst (FirstFault rec e) (same_some _ _ _ r.1 h) r.2
-          | inr r ↦ absurd (some_not_none _ _ h r.0)
-        ],
-    λ h.
-        elim fault_cases [
-          | inl r ↦
-              elim (cases_order r.0 n) [
-                | inl same ↦ subst (λ m. fault rec e ≡ Some m) same r.1
-                | inr (inl l) ↦ absurd (both_ways _ (h.first r.0 l) r.2.holds)
-                | inr (inr l) ↦ absurd (both_ways _ (r.2.first n l) h.holds)
-              ]
-          | inr r ↦ absurd (both_ways _ (r.1 n) h.holds)
-        ],
-  )
 
   pub no_fault_iff : (fault rec e ≡ None) ↔ NoFault rec e
   no_fault_iff = (
@@ -83,6 +64,10 @@ module _ (rec : List Event) (e : Event) (none : NoFault rec e) where
   lock_flag_range n x h k =
       let d = does_parts n e x h in
       subst (λ y. y < 32) d.1 (within (is 2 e || is 3 e || is 4 e || is 5 e) 32 _ thing_tests.1 k)
+
+  pub acquired_range : (l : ℕ) → acquires e l ≡ true → l < 32
+  acquired_range l a =
+      lock_flag_range 2 l a (or_left (is 2 e || is 3 e || is 4 e) _ (or_left (is 2 e || is 3 e) _ (or_left (is 2 e) _ (does_parts 2 e l a).0)))
 
   pub place_range : (p : ℕ) → touches e p ≡ true → p < 64
   unfolding touches writes_place reads_place

@@ -1,6 +1,6 @@
 -- The numbers of holders, and the lists of those that an event takes from and gives to. Assumes nothing.
-use Rattle.std.proofs.Common.{◌≡◌, ℕ, ◌+◌, ◌-◌, ◌<◌, Bool, true, false, cond, ◌||◌, eqb, ◌⊎◌, List, [], ◌∷◌, ◌++◌, sym, refl, ap, ◌∙◌, subst, inl, inr, arith}
-use Rattle.std.proofs.lemmas.Bool.{or_cases, or_left, or_right, and_parts, and_from, eq-eqb, eqb-true, false≢true, cases_lt}
+use Rattle.std.proofs.Common.{◌≡◌, ℕ, ◌+◌, ◌<◌, Bool, true, false, cond, ◌||◌, eqb, ◌⊎◌, List, [], ◌∷◌, ◌++◌, sym, refl, ap, ◌∙◌, subst, inl, inr, arith}
+use Rattle.std.proofs.lemmas.Bool.{or_cases, or_left, or_right, and_parts, and_from, eq-eqb, eqb-true, false≢true}
 use Rattle.events.specs.declared.Event.{Event}
 use Rattle.events.specs.declared.Action.{Action}
 use Rattle.events.specs.declared.Action.TheVariants.{Read, Write, Acquire, Release, ReadFlag, WriteFlag, Fork, Join, Allocate, Commit}
@@ -8,10 +8,10 @@ use Rattle.events.specs.Places.{member, those_below}
 use Rattle.events.specs.Kinds.{kind}
 use Rattle.order.specs.Acts.{operand, read_set, write_set, is, does, commits}
 use Rattle.order.specs.Holders.{Holder, of_thread, of_lock, of_flag, of_place, gives, takes, holder_number, InRange}
-use Rattle.order.specs.Slots.{place_holders_below, place_holders, taken, given}
+use Rattle.order.specs.Slots.{place_holders, taken, given}
 use Rattle.order.specs.Verdicts.{NoFault}
 use Rattle.order.proofs.Acts.{does_parts, does_from, member_place, commits_place}
-use Rattle.order.proofs.Faults.{thread_range, forked_range, joined_range, lock_flag_range}
+use Rattle.order.proofs.Faults.{thread_range, forked_range, joined_range, lock_flag_range, acquired_range}
 use Rattle.order.proofs.Passes.{has, has_cases, has_left, has_right, has_shifted, has_unshifted, those_below_has, has_those_below}
 
 -- in range, a number is one holder's
@@ -33,17 +33,6 @@ one_holder (of_place t) (of_lock u) l m q = absurd (omega arith)
 one_holder (of_place t) (of_flag u) l m q = absurd (omega arith)
 one_holder (of_place t) (of_place u) l m q = ap of_place (omega arith)
 
--- each number below 136 is a holder's
-pub holder_of : (x : ℕ) → x < 136 → (h : Holder) × InRange h × (holder_number h ≡ x)
-holder_of x l =
-    elim (cases_lt x 8) [
-      | inl a ↦ (of_thread x, a, refl)
-      | inr a ↦ elim (cases_lt x 40) [
-        | inl b ↦ (of_lock (x - 8), omega arith, omega arith)
-        | inr b ↦ elim (cases_lt x 72) [ inl c ↦ (of_flag (x - 40), omega arith, omega arith) | inr c ↦ (of_place (x - 72), omega arith, omega arith) ]
-      ]
-    ]
-
 -- what an event that no number refuses takes from and gives to is in range
 module _ (rec : List Event) (e : Event) (none : NoFault rec e) where
   pub takes_range : (h : Holder) → takes rec e h ≡ true → InRange h
@@ -53,7 +42,7 @@ module _ (rec : List Event) (e : Event) (none : NoFault rec e) where
         | inl r ↦ subst (λ x. x < 8) (eqb-true e.thread t r) (thread_range rec e none)
         | inr r ↦ joined_range rec e none t r
       ]
-  takes_range (of_lock l) q = lock_flag_range rec e none 2 l q (or_left (is 2 e || is 3 e || is 4 e) _ (or_left (is 2 e || is 3 e) _ (or_left (is 2 e) _ (does_parts 2 e l q).0)))
+  takes_range (of_lock l) q = acquired_range rec e none l q
   takes_range (of_flag f) q = lock_flag_range rec e none 4 f q (or_left (is 2 e || is 3 e || is 4 e) _ (or_right (is 2 e || is 3 e) _ (does_parts 4 e f q).0))
   takes_range (of_place p) q = commits_place e p q
 
@@ -76,13 +65,13 @@ has_single : (x y : ℕ) → x ≡ y → has (x ∷ []) y ≡ true
 has_single x y q = or_left (eqb x y) false (eq-eqb x y q)
 
 place_of : (r w x : ℕ) → has (place_holders r w) x ≡ true → (p : ℕ) × (x ≡ 72 + p) × ((member r p || member w p) ≡ true)
-unfolding place_holders_below
+unfolding place_holders
 place_of r w x h =
     let q = has_unshifted 72 (those_below 64 (λ p. member r p || member w p)) x h in
     (q.0, q.1, (those_below_has 64 (λ p. member r p || member w p) q.0 q.2).1)
 
 has_place : (r w p : ℕ) → (member r p || member w p) ≡ true → has (place_holders r w) (72 + p) ≡ true
-unfolding place_holders_below
+unfolding place_holders
 has_place r w p h = has_shifted 72 _ p (has_those_below 64 (λ q. member r q || member w q) p (elim (or_cases (member r p) (member w p) h) [ inl q ↦ member_place r p q | inr q ↦ member_place w p q ]) h)
 
 -- both lists are made alike: a lock for one kind of event, a flag for another, a thread for a third, and a commit's places

@@ -1,10 +1,10 @@
--- Every answer of the judgement is right, and an accepted record is lawful and race-free. Assumes nothing.
-use Rattle.std.proofs.Common.{◌≡◌, ℕ, ◌+◌, true, ◌↔◌, List, [], ◌∷◌, length, Some, None, Option, sym, refl, ap, ◌∙◌, subst, inl, inr, arith}
+-- Every answer of the judgement is right, and the record after it stays lawful and race-free. Assumes nothing.
+use Rattle.std.proofs.Common.{◌≡◌, ℕ, ◌+◌, true, List, [], ◌∷◌, length, Some, None, Option, sym, refl, ap, ◌∙◌, subst, inl, inr, arith}
 use Rattle.events.specs.declared.Event.{Event}
 use Rattle.order.specs.Acts.{touches}
 use Rattle.order.specs.Conflicts.{lives, RaceFree, Race}
 use Rattle.order.specs.Faults.{fault, Lawful}
-use Rattle.order.specs.Judgement.{Answer, accepted, refused, declined, witness, Finding, found, race, verdict, ruled, judge, recorded, Accepted}
+use Rattle.order.specs.Judgement.{Answer, accepted, refused, declined, witness, Finding, found, race, verdict, ruled, judge, recorded}
 use Rattle.order.specs.Verdicts.{NoFault, Declined, Right}
 use Rattle.order.proofs.Options.{option_cases, some_not_none, same_some}
 use Rattle.order.proofs.Searches.{first_from_cases}
@@ -86,29 +86,6 @@ module _ (rec : List Event) (e : Event) where
     pub right_at : (a : Answer) → judge rec e ≡ a → Right rec e a
     right_at a h = subst (Right rec e) h judge_right
 
-    -- to an event that no number refuses: declined just if it races with an accepted access, else accepted
-    pub declined_iff : NoFault rec e → ((p : ℕ) × (s : ℕ) × (judge rec e ≡ declined p s)) ↔ ((p : ℕ) × (i : ℕ) × Race rec e p i)
-    declined_iff none = (
-      λ h. let d = right_at (declined h.0 h.1) h.2 in (h.0, d.position, d.race),
-      λ h.
-          let q = (no_fault_iff rec e).1 none in
-          elim (option_cases (race rec e)) [
-            | inl r ↦ absurd (no_race none r h.0 h.1 h.2)
-            | inr r ↦ (r.0.place, r.0.witness + 1, judge_declined r.0 q r.1)
-          ],
-    )
-
-    pub accepted_iff : NoFault rec e → (judge rec e ≡ accepted (length rec + 1)) ↔ ((p i : ℕ) → Race rec e p i → ⊥)
-    accepted_iff none = (
-      λ h. (right_at (accepted (length rec + 1)) h).free,
-      λ h.
-          let q = (no_fault_iff rec e).1 none in
-          elim (option_cases (race rec e)) [
-            | inl r ↦ judge_accepted q r
-            | inr r ↦ (let d = a_race none r.0 r.1 in absurd (h _ _ d.race))
-          ],
-    )
-
     pub accepted_free : (s : ℕ) → judge rec e ≡ accepted s → RaceFree (e ∷ rec)
     accepted_free s h = race_free_more rec e free (right_at (accepted s) h).free
 
@@ -126,9 +103,3 @@ module _ (rec : List Event) (e : Event) where
 
 pub nothing_races : RaceFree []
 nothing_races p n i j l c = let m = holds_at_within [] j _ c.second in absurd (omega arith)
-
-pub accepted_sound : (rec : List Event) → Accepted rec → Lawful rec × RaceFree rec
-accepted_sound [] h = (tt, nothing_races)
-accepted_sound (e ∷ rec) h =
-    let rest = accepted_sound rec h.1 in
-    (accepted_lawful rec e rest.0 rest.1 _ h.0, accepted_free rec e rest.0 rest.1 _ h.0)

@@ -37,13 +37,6 @@ module _ (f : Test) where
         | inr m ↦ (let q = m.0 in let z : ◌≡◌ {A = ℕ} 0 1 = cc in absurd (omega arith))
       ]
 
-  pub latest_none : (rec : List Event) → latest f rec ≡ None → (j : ℕ) → holds_at rec j f ≡ true → ⊥
-  latest_none rec h =
-      elim (latest_cases rec) [
-        | inl m ↦ (let q = m.1 in let z : ◌≡◌ {A = ℕ} 0 1 = cc in absurd (omega arith))
-        | inr m ↦ m.1
-      ]
-
   pub latest_is : (rec : List Event) (i : ℕ) → Latest f rec i → latest f rec ≡ Some i
   latest_is rec i h =
       elim (latest_cases rec) [

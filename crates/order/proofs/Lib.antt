@@ -1,3 +1,4 @@
+pub mod Computing
 pub mod Options
 pub mod Searches
 pub mod Records

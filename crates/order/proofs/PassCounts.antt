@@ -10,8 +10,16 @@ use Rattle.events.specs.declared.Action.{Action}
 use Rattle.events.specs.declared.Action.TheVariants.{Read, Write, Acquire, Release, ReadFlag, WriteFlag, Fork, Join, Allocate, Commit}
 use Rattle.events.specs.declared.PlaceSet.{PlaceSet}
 use Rattle.events.specs.Places.{member, those_below}
-use Rattle.order.specs.Work.{Call, begin, forget, pass, passes_made, forget_from, written, looked_at, committed, accesses, calls, passes_of, passes_by}
-use Rattle.order.specs.Slots.{place_holders_below, place_holders, taken, given}
+use Rattle.order.specs.Acts.{by}
+use Rattle.order.specs.Work.{Call, begin, forget, pass, forget_from, written, looked_at, committed, accesses, calls, passes_of, passes_by}
+use Rattle.order.specs.Slots.{place_holders, taken, given}
+
+-- how many of the calls are passes
+abbrev pub passes_made : List Call → ℕ
+passes_made [] = 0
+passes_made (begin i t ∷ cs) = passes_made cs
+passes_made (forget i ∷ cs) = passes_made cs
+passes_made (pass a b ∷ cs) = suc (passes_made cs)
 
 those_step : (n : ℕ) (f : ℕ → Bool) → length (those_below (suc n) f) ≡ length (those_below n f) + cond (f n) 1 0
 unfolding those_below
@@ -41,7 +49,7 @@ ones_more : (x k : ℕ) → ones (x % 2 ^ (1 + k)) ≡ x / 2 ^ k % 2 + ones (x %
 ones_more x k =
     ap ones (mod-pow-add x 1 k) ∙ ones_cat k (x / 2 ^ k % 2) (x % 2 ^ k) (mod-lt x (pow_pos k)) ∙ ap (λ m. m + ones (x % 2 ^ k)) (ones_bit (x / 2 ^ k % 2) (omega arith))
 
-or_bit : (a b : ℕ) → bit_or a b % 2 ≡ max (a % 2) (b % 2)
+pub or_bit : (a b : ℕ) → bit_or a b % 2 ≡ max (a % 2) (b % 2)
 or_bit a b = omega (arith, or_step a b)
 
 or_bit_at : (r w k : ℕ) → bit_or r w / 2 ^ k % 2 ≡ max (r / 2 ^ k % 2) (w / 2 ^ k % 2)
@@ -59,16 +67,16 @@ counted r w (suc n) l =
     those_step n (λ p. member r p || member w p) ∙ (λ d. ih d + bit d) ∙ omega arith ∙ sym (ones_more (bit_or r w) n) ∙ ap (λ m. ones (bit_or r w % 2 ^ m)) (one-add n)
 
 pub place_holders_ones : (r w : ℕ) → r < 2 ^ 64 → w < 2 ^ 64 → length (place_holders r w) ≡ ones (bit_or r w)
-unfolding place_holders_below
+unfolding place_holders
 place_holders_ones r w l m =
     length-map (those_below 64 (λ p. member r p || member w p)) (λ p. 72 + p) ∙ counted r w 64 (omega arith) ∙ ap ones (mod-eq_of_lt (or_lt 64 r w l m))
 
 place_holders_few : (r w : ℕ) → length (place_holders r w) ≤ 64
-unfolding place_holders_below
+unfolding place_holders
 place_holders_few r w = rw (length-map (those_below 64 (λ p. member r p || member w p)) (λ p. 72 + p)) (those_few 64 (λ p. member r p || member w p))
 
 -- a commit makes twice as many passes as it has places
-pub commit_passes : (t : ℕ) (r w : PlaceSet) → r.word < 2 ^ 64 → w.word < 2 ^ 64 → passes_of (record { thread = t; action = Commit r w }) ≡ 2 * ones (bit_or r.word w.word)
+pub commit_passes : (t : ℕ) (r w : PlaceSet) → r.word < 2 ^ 64 → w.word < 2 ^ 64 → passes_of (by t (Commit r w)) ≡ 2 * ones (bit_or r.word w.word)
 commit_passes t r w l m = let few = place_holders_ones r.word w.word l m in omega arith
 
 passes : Action → ℕ

@@ -1,9 +1,33 @@
 -- Passes between one thread and a list of holders, as a whole: what joins a set. Assumes nothing.
-use Rattle.std.proofs.Common.{◌≡◌, ℕ, zero, suc, ◌+◌, ◌<◌, Bool, true, false, cond, ◌&&◌, ◌||◌, eqb, ◌⊎◌, List, [], ◌∷◌, ◌++◌, map, sym, refl, ap, ◌∙◌, inl, inr, append-nil, add-one, arith}
-use mathlib.Core.List.{map-append}
+use Rattle.std.proofs.Common.{◌≡◌, ℕ, zero, suc, ◌+◌, ◌<◌, Bool, true, false, cond, ◌&&◌, ◌||◌, eqb, ◌⊎◌, List, [], ◌∷◌, ◌++◌, map, sym, refl, ap, ◌∙◌, inl, inr, arith}
 use Rattle.std.proofs.lemmas.Bool.{cases_eq, or_cases, or_left, or_right, and_parts, and_from, eq-eqb, eqb-true, false≢true}
-use Rattle.events.specs.Places.{member, those_below}
-use Rattle.order.specs.Slots.{Set, passed, pass_in, pass_out, place_holders_below}
+use Rattle.events.specs.Places.{those_below}
+use Rattle.order.specs.Slots.{Set, changed, taken, given}
+use Rattle.events.specs.declared.Event.{Event}
+
+-- nobody, just t, and the set s after a pass from a to b: b joins a set that has a
+abbrev pub nobody : Set
+nobody h = false
+
+abbrev pub only : ℕ → Set
+only t h = eqb h t
+
+abbrev pub passed : ℕ → ℕ → Set → Set
+passed a b s h = s h || eqb h b && s a
+
+-- a set after a pass from each of a list of holders to t, or from t to each
+unfoldable pub pass_in : ℕ → List ℕ → Set → Set
+pass_in t [] s = s
+pass_in t (h ∷ hs) s = pass_in t hs (passed h t s)
+
+unfoldable pub pass_out : ℕ → List ℕ → Set → Set
+pass_out t [] s = s
+pass_out t (h ∷ hs) s = pass_out t hs (passed t h s)
+
+-- the set of slot k of p after e: passes in, the access, passes out
+unfoldable pub worked : Event → ℕ → ℕ → Set → Set
+worked e p k s =
+    pass_out e.thread (given e.action) (changed e p k (only e.thread) nobody (pass_in e.thread (taken e.action) s))
 
 abbrev pub has : List ℕ → ℕ → Bool
 has [] x = false
@@ -138,31 +162,3 @@ has_those_below (suc n) f x l h =
       | inl q ↦ has_right (those_below n f) _ x (ap (λ b. has (cond b (n ∷ []) []) x) (ap f q ∙ h) ∙ or_left (eqb n x) false (eq-eqb n x q))
       | inr q ↦ has_left (those_below n f) _ x (has_those_below n f x (omega arith) h)
     ]
-
--- the steps of a loop over holders: one more pass at the end, and one more place
-pub pass_in_push : (t : ℕ) (hs : List ℕ) (h : ℕ) (s : Set) → pass_in t (hs ++ h ∷ []) s ≡ passed h t (pass_in t hs s)
-unfolding pass_in
-pass_in_push t [] h s = refl
-pass_in_push t (k ∷ ks) h s = pass_in_push t ks h (passed k t s)
-
-pub pass_out_push : (t : ℕ) (hs : List ℕ) (h : ℕ) (s : Set) → pass_out t (hs ++ h ∷ []) s ≡ passed t h (pass_out t hs s)
-unfolding pass_out
-pass_out_push t [] h s = refl
-pass_out_push t (k ∷ ks) h s = pass_out_push t ks h (passed t k s)
-
-pub place_holders_none : (r w : ℕ) → place_holders_below 0 r w ≡ []
-unfolding place_holders_below those_below
-place_holders_none r w = refl
-
--- the next place is in one of the sets, or in none
-pub place_holders_more : (n r w : ℕ) → (member r n || member w n) ≡ true → place_holders_below (n + 1) r w ≡ place_holders_below n r w ++ (72 + n) ∷ []
-unfolding place_holders_below those_below
-place_holders_more n r w h =
-    let f : ℕ → Bool = λ p. member r p || member w p in
-    ap (λ m. place_holders_below m r w) (add-one n) ∙ map-append (λ p. 72 + p) (those_below n f) _ ∙ ap (λ b. map (λ p. 72 + p) (those_below n f) ++ map (λ p. 72 + p) (cond b (n ∷ []) [])) h
-
-pub place_holders_same : (n r w : ℕ) → (member r n || member w n) ≡ false → place_holders_below (n + 1) r w ≡ place_holders_below n r w
-unfolding place_holders_below those_below
-place_holders_same n r w h =
-    let f : ℕ → Bool = λ p. member r p || member w p in
-    ap (λ m. place_holders_below m r w) (add-one n) ∙ ap (λ b. map (λ p. 72 + p) (those_below n f ++ cond b (n ∷ []) [])) h ∙ ap (map (λ p. 72 + p)) (append-nil (those_below n f))

@@ -1,5 +1,5 @@
--- A race-free record stays race-free just if the new event races with nothing. Assumes nothing.
-use Rattle.std.proofs.Common.{◌≡◌, ℕ, ◌<◌, Bool, true, eqb, ◌⊎◌, ◌↔◌, List, ◌∷◌, length, sym, refl, ◌∙◌, subst, inl, inr, arith}
+-- A race-free record stays race-free if the new event races with nothing. Assumes nothing.
+use Rattle.std.proofs.Common.{◌≡◌, ℕ, ◌<◌, Bool, true, eqb, ◌⊎◌, List, ◌∷◌, length, sym, refl, ◌∙◌, subst, inl, inr, arith}
 use Rattle.std.proofs.lemmas.Bool.Decides.{not_from_Decides}
 use Rattle.std.proofs.lemmas.Bool.{and_parts, and_from, or_cases, or_left, eq-eqb, eqb-true, cases_eq, cases_Bool}
 use Rattle.events.specs.declared.Event.{Event}
@@ -124,7 +124,6 @@ module _ (rec : List Event) (e : Event) where
         | inr u ↦ absurd (none p i (record { accepted = l; conflict = subst (λ m. Conflict (e ∷ rec) p m i (length rec)) (sym same) c; unordered = u }))
       ]
 
-  -- the longer record is race-free just if e races with nothing
   pub race_free_more : RaceFree rec → ((p i : ℕ) → Race rec e p i → ⊥) → RaceFree (e ∷ rec)
   race_free_more free none p n i j l c =
       let m = holds_at_within (e ∷ rec) j _ c.second in
@@ -133,9 +132,3 @@ module _ (rec : List Event) (e : Event) where
         | inl q ↦
             subst (λ x. Ordered (e ∷ rec) i x) (sym q) (at_end none p n i (omega arith) (subst (λ x. Conflict (e ∷ rec) p n i x) q c))
       ]
-
-  pub race_free_less : RaceFree (e ∷ rec) → (p i : ℕ) → Race rec e p i → ⊥
-  race_free_less free p i r = r.unordered (free p (lives rec p) i (length rec) r.accepted r.conflict)
-
-  pub race_free_iff : RaceFree rec → RaceFree (e ∷ rec) ↔ ((p i : ℕ) → Race rec e p i → ⊥)
-  race_free_iff free = (race_free_less, race_free_more free)

@@ -1,9 +1,12 @@
 -- Holders that an event has reached: how they decide the order, and what one more event changes. Assumes nothing.
-use Rattle.std.proofs.Common.{◌≡◌, ℕ, ◌<◌, true, ◌&&◌, ◌||◌, eqb, ◌⊎◌, ◌↔◌, List, ◌∷◌, length, Decides, sym, ◌∙◌, subst, inl, inr, arith}
-use Rattle.std.proofs.lemmas.Bool.{and_parts, and_from, or_cases, or_left, or_right, eq-eqb, eqb-true}
+use Rattle.std.proofs.Common.{◌≡◌, ℕ, ◌<◌, true, false, ◌&&◌, ◌||◌, eqb, ◌⊎◌, ◌↔◌, List, ◌∷◌, length, Decides, sym, refl, ◌∙◌, subst, inl, inr, arith}
+use Rattle.std.proofs.lemmas.Bool.{and_parts, and_from, or_cases, or_left, or_right, eq-eqb, eqb-true, false≢true}
 use Rattle.events.specs.declared.Event.{Event}
+use Rattle.events.specs.declared.Action.TheVariants.{Read}
+use Rattle.order.specs.Acts.{by, does, commits}
 use Rattle.order.specs.Order.{Ordered, ordered}
-use Rattle.order.specs.Holders.{Holder, gives, takes, gives_at, Reached, reached}
+use Rattle.order.specs.Holders.{Holder, of_thread, of_lock, of_flag, of_place, gives, takes, gives_at, Reached, reached}
+use Rattle.order.specs.Verdicts.{Before}
 use Rattle.order.proofs.Records.{holds_at_last, holds_at_past, holds_at_cases, holds_at_within}
 use Rattle.order.proofs.Chains.{chain_last, chain_from_last, ordered_longer, ordered_shorter, ordered_decides}
 use Rattle.order.proofs.Searches.{some_below_found, some_below_from}
@@ -81,3 +84,28 @@ reached_decides rec i h = (
       let from : (eqb i k || ordered rec i k) ≡ true = elim r.from [ inl s ↦ or_left (eqb i k) _ (eq-eqb i k s) | inr s ↦ or_right (eqb i k) _ ((ordered_decides rec i k).1 s) ] in
       some_below_from (length rec) (λ m. (eqb i m || ordered rec i m) && gives_at rec m h) k (holds_at_within rec k _ r.gives) (and_from (eqb i k || ordered rec i k) (gives_at rec k h) from r.gives),
 )
+
+-- what a reader takes is what has reached its thread
+reader_takes : (rec : List Event) (t p i : ℕ) (h : Holder) → takes rec (by t (Read p)) h ≡ true → Reached rec i h → Reached rec i (of_thread t)
+unfolding takes does commits
+reader_takes rec t p i (of_thread u) q r =
+    elim (or_cases (eqb t u) false q) as (λ _. Reached rec i (of_thread t)) [
+      | inl s ↦ subst (λ x. Reached rec i (of_thread x)) (sym (eqb-true t u s)) r
+      | inr s ↦ absurd (false≢true s)
+    ]
+reader_takes rec t p i (of_lock l) q r = absurd (false≢true q)
+reader_takes rec t p i (of_flag f) q r = absurd (false≢true q)
+reader_takes rec t p i (of_place q) h r = absurd (false≢true h)
+
+reader_own : (rec : List Event) (t p : ℕ) → takes rec (by t (Read p)) (of_thread t) ≡ true
+unfolding takes
+reader_own rec t p = or_left (eqb t t) _ (eq-eqb t t refl)
+
+-- an event has reached a thread just if it is ordered before what that thread would read next
+pub reached_ordered : (rec : List Event) (i t p : ℕ) → i < length rec → Decides (reached rec i (of_thread t)) (Before rec (by t (Read p)) i)
+reached_ordered rec i t p l =
+    let through = ordered_iff_reached rec (by t (Read p)) i l in
+    let decides = reached_decides rec i (of_thread t) in (
+      λ q. through.1 (of_thread t, decides.0 q, reader_own rec t p),
+      λ b. let r = through.0 b in decides.1 (reader_takes rec t p i r.0 r.2 r.1),
+    )

@@ -1,8 +1,8 @@
 -- Positions of a record: what holds at the newest event, and what a longer record keeps. Assumes nothing.
-use Rattle.std.proofs.Common.{◌≡◌, ℕ, ◌<◌, ◌≤◌, true, ◌⊎◌, List, [], ◌∷◌, length, Some, sym, refl, ap, ◌∙◌, ap₂, inl, inr, arith}
+use Rattle.std.proofs.Common.{◌≡◌, ℕ, ◌<◌, ◌≤◌, true, ◌⊎◌, List, [], ◌∷◌, length, sym, refl, ◌∙◌, inl, inr, arith}
 use Rattle.std.proofs.lemmas.Bool.{cond-true, cond-false, eq-eqb, ne_eqb, cases_eq, false≢true, lt-ltb, le-ltb}
 use Rattle.events.specs.declared.Event.{Event}
-use Rattle.order.specs.Records.{Test, holds_at, event_at, before}
+use Rattle.order.specs.Records.{Test, holds_at, before}
 
 pub holds_at_last : (rec : List Event) (e : Event) (f : Test) → holds_at (e ∷ rec) (length rec) f ≡ f rec e
 unfolding holds_at
@@ -52,28 +52,3 @@ pub holds_at_weaker : (rec : List Event) (i : ℕ) (f g : Test) → ((past : Lis
 holds_at_weaker rec i f g w h =
     let here = at_position rec i (holds_at_within rec i f h) in
     here.2 g ∙ w here.0 here.1 (sym (here.2 f) ∙ h)
-
--- the event at a position, by name
-pub event_at_within : (rec : List Event) (i : ℕ) (a : Event) → event_at rec i ≡ Some a → i < length rec
-unfolding event_at
-event_at_within [] i a h = let z : ◌≡◌ {A = ℕ} 0 1 = cc in absurd (omega arith)
-event_at_within (e ∷ rec) i a h =
-    elim (cases_eq i (length rec)) [
-      | inl q ↦ omega arith
-      | inr q ↦ (let l = event_at_within rec i a (sym (cond-false _ _ _ (ne_eqb i (length rec) q)) ∙ h) in omega arith)
-    ]
-
-pub event_at_holds : (rec : List Event) (i : ℕ) (a : Event) → event_at rec i ≡ Some a → (f : Test) → holds_at rec i f ≡ f (before rec i) a
-unfolding event_at holds_at
-event_at_holds [] i a h f = let z : ◌≡◌ {A = ℕ} 0 1 = cc in absurd (omega arith)
-event_at_holds (e ∷ rec) i a h f =
-    elim (cases_eq i (length rec)) [
-      | inl q ↦
-          let named : Some e ≡ Some a = sym (cond-true _ _ _ (eq-eqb i (length rec) q)) ∙ h in
-          let same : e ≡ a = cc in
-          let whole = before_past rec e i (omega arith) ∙ before_all rec i (omega arith) in
-          cond-true _ _ _ (eq-eqb i (length rec) q) ∙ ap₂ f (sym whole) same
-      | inr q ↦
-          let l = event_at_within rec i a (sym (cond-false _ _ _ (ne_eqb i (length rec) q)) ∙ h) in
-          cond-false _ _ _ (ne_eqb i (length rec) q) ∙ event_at_holds rec i a (sym (cond-false _ _ _ (ne_eqb i (length rec) q)) ∙ h) f ∙ ap (λ past. f past a) (sym (before_past rec e i (omega arith)))
-    ]

@@ -1,6 +1,6 @@
 -- Threads and locks as the record grows; and that a lock's holder is always a running thread. Assumes nothing.
 use Rattle.std.proofs.Common.{◌≡◌, ℕ, ◌<◌, true, false, cond, not, ◌||◌, eqb, ◌⊎◌, List, [], ◌∷◌, Some, None, sym, refl, ap, ◌∙◌, subst, inl, inr, arith}
-use Rattle.std.proofs.lemmas.Bool.{cases_Bool, cond-true, cond-false, or_parts, or_right, or_from, or_left, and_parts, and_from, not-false, not-true, not_from_false, eq-eqb, both_ways}
+use Rattle.std.proofs.lemmas.Bool.{cases_Bool, cond-true, cond-false, or_parts, or_right, or_from, and_parts, and_from, not-false, not-true, not_from_false, eq-eqb, both_ways}
 use Rattle.events.specs.declared.Event.{Event}
 use Rattle.order.specs.Acts.{is, operand, acquires, releases, forks, joins}
 use Rattle.order.specs.Records.{started, ended, running, lock_holder}
@@ -9,7 +9,7 @@ use Rattle.order.specs.Verdicts.{NoFault}
 use Rattle.order.proofs.Options.{some_not_none, same_some}
 use Rattle.order.proofs.Searches.{some_below_from}
 use Rattle.order.proofs.Acts.{does_parts, one_kind}
-use Rattle.order.proofs.Faults.{no_fault_iff, lock_flag_range}
+use Rattle.order.proofs.Faults.{no_fault_iff, acquired_range}
 
 pub started_none : (t : ℕ) → started [] t ≡ eqb t 0
 unfolding started
@@ -83,7 +83,7 @@ holder_runs (e ∷ rec) lawful l t h = go (cases_Bool (acquires e l)) (holder_ru
     go (inl a) ih =
         let same = same_some _ e.thread t (lock_holder_more rec e l ∙ cond-true _ _ _ a) h in
         let runs = runs_on rec e e.thread (thread_runs rec e none) (acquires_not_joins rec e none l e.thread a) in (
-          lock_flag_range rec e none 2 l a (or_left (is 2 e || is 3 e || is 4 e) _ (or_left (is 2 e || is 3 e) _ (or_left (is 2 e) _ (does_parts 2 e l a).0))),
+          acquired_range rec e none l a,
           subst (λ u. running (e ∷ rec) u ≡ true) same runs,
         )
     go (inr a) ih =

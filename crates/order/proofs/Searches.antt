@@ -1,5 +1,5 @@
 -- What the searches over numbers find. Assumes nothing.
-use Rattle.std.proofs.Common.{◌≡◌, ℕ, zero, suc, ◌+◌, ◌-◌, ◌<◌, ◌≤◌, Bool, true, false, ◌⊎◌, List, [], ◌∷◌, get_or, Some, None, Decides, Option, refl, ap, ◌∙◌, subst, inl, inr, arith}
+use Rattle.std.proofs.Common.{◌≡◌, ℕ, zero, suc, ◌+◌, ◌<◌, ◌≤◌, Bool, true, false, ◌⊎◌, List, [], ◌∷◌, get_or, Some, None, Decides, Option, refl, ap, ◌∙◌, subst, inl, inr, arith}
 use Rattle.std.proofs.lemmas.Bool.Decides.{Decides-below_or}
 use Rattle.std.proofs.lemmas.Bool.{cases_Bool, cases_eq, cond-true, cond-false}
 use Rattle.order.specs.Searches.{some_below, first_from, first_true, or_else}
@@ -54,23 +54,6 @@ module _ {A : Type 0} (f : ℕ → Option A) where
           | inr r ↦ inr (ap (λ o. or_else o (first_from n (k + 1) f)) q ∙ r.0, none_at n k q r.1)
         ]
       ]
-
-  -- a search upwards to n, step by step: it passes k, it stops at k, it has come to the end
-  pub first_passes : (n k : ℕ) → k < n → f k ≡ None → first_from (n - k) k f ≡ first_from (n - (k + 1)) (k + 1) f
-  unfolding first_from
-  first_passes n k l q =
-      let more : n - k ≡ suc (n - (k + 1)) = omega arith in
-      ap (λ m. first_from m k f) more ∙ ap (λ o. or_else o (first_from (n - (k + 1)) (k + 1) f)) q
-
-  pub first_stops : (n k : ℕ) (a : A) → k < n → f k ≡ Some a → first_from (n - k) k f ≡ Some a
-  unfolding first_from
-  first_stops n k a l q =
-      let more : n - k ≡ suc (n - (k + 1)) = omega arith in
-      ap (λ m. first_from m k f) more ∙ ap (λ o. or_else o (first_from (n - (k + 1)) (k + 1) f)) q
-
-  pub first_ends : (n k : ℕ) → n ≤ k → first_from (n - k) k f ≡ None
-  unfolding first_from
-  first_ends n k l = let none : n - k ≡ 0 = omega arith in ap (λ m. first_from m k f) none
 
 -- searches with the same answers find the same
 pub first_from_same : {A : Type 0} (f g : ℕ → Option A) (n k : ℕ) → ((m : ℕ) → k ≤ m → m < k + n → f m ≡ g m) → first_from n k f ≡ first_from n k g

@@ -4,14 +4,14 @@ use Rattle.std.proofs.lemmas.Bool.{cases_Bool, cond-true, cond-false, false≢tr
 use Rattle.events.specs.declared.Event.{Event}
 use Rattle.order.specs.Verdicts.{NoFault, Before}
 use Rattle.order.specs.Holders.{Holder, of_thread, gives, Reached, holder_number, InRange}
-use Rattle.order.specs.Slots.{slot_access, begins, forgets, Set, nobody, only, pass_in, pass_out, taken, given, worked, InSlot, SlotSet}
+use Rattle.order.specs.Slots.{slot_access, begins, forgets, Set, taken, given, InSlot, SlotSet}
 use Rattle.order.proofs.Options.{option_cases, some_not_none, same_some}
 use Rattle.order.proofs.Records.{holds_at_within}
 use Rattle.order.proofs.Chains.{ordered_earlier}
 use Rattle.order.proofs.Reach.{ordered_iff_reached, reached_more}
 use Rattle.order.proofs.Faults.{thread_range}
 use Rattle.order.proofs.Slots.{slot_access_step, slot_access_within, slot_access_none}
-use Rattle.order.proofs.Passes.{has, SomeIn, pass_in_cases, pass_in_kept, pass_in_new, pass_out_cases, pass_out_kept, pass_out_new}
+use Rattle.order.proofs.Passes.{has, SomeIn, pass_in_cases, pass_in_kept, pass_in_new, pass_out_cases, pass_out_kept, pass_out_new, pass_in, pass_out, worked, nobody, only}
 use Rattle.order.proofs.HolderNumbers.{one_holder, takes_range, gives_range, taken_of, taken_or_own, given_of, given_or_own, takes_own, gives_own}
 
 pub nobody_in : (p k : ℕ) → SlotSet [] p k nobody

@@ -4,9 +4,8 @@ use Rattle.std.proofs.lemmas.Bool.{cases_Bool, cond-true, cond-false, ltb-false}
 use Rattle.events.specs.declared.Event.{Event}
 use Rattle.order.specs.Acts.{writes_place, reads_place, touches}
 use Rattle.order.specs.Conflicts.{lives, writes_in, reads_in, RaceFree}
-use Rattle.order.specs.Judgement.{latest_write, latest_read, unordered, unordered_read, witness, found, race}
+use Rattle.order.specs.Judgement.{latest_write, latest_read, unordered, unordered_read, witness, found, race, Finding}
 use Rattle.order.specs.Slots.{since, slot_access}
-use Rattle.order.specs.SlotSearch.{slot_read, slot_witness, slot_race}
 use Rattle.order.proofs.Options.{or_else_same}
 use Rattle.order.proofs.Searches.{first_from_same}
 use Rattle.order.proofs.Records.{holds_at_within, at_position}
@@ -14,6 +13,18 @@ use Rattle.order.proofs.Acts.{write_not_read}
 use Rattle.order.proofs.Chains.{chain_append, ordered_longer, ordered_decides}
 use Rattle.order.proofs.Accesses.{in_life_parts, read_in_touches, write_conflicts}
 use Rattle.order.proofs.Witnesses.{latest_write_iff, latest_read_iff, read_by_reads, unordered_none}
+use Rattle.order.specs.Searches.{first_from, or_else}
+
+-- what e races with at p, sought in p's write slot and, for a write, in its read slots; and the lowest place with such a witness
+unfoldable pub slot_read : List Event → Event → ℕ → Option ℕ
+slot_read rec e p = first_from 8 0 (λ t. unordered rec e (slot_access rec p (t + 1)))
+
+unfoldable pub slot_witness : List Event → Event → ℕ → Option ℕ
+slot_witness rec e p =
+    cond (touches e p) (or_else (unordered rec e (slot_access rec p 0)) (cond (writes_place e p) (slot_read rec e p) None)) None
+
+unfoldable pub slot_race : List Event → Event → Option Finding
+slot_race rec e = first_from 64 0 (λ p. found p (slot_witness rec e p))
 
 -- no access is both a write and a read of the place
 pub not_both : (rec : List Event) (p n i : ℕ) → writes_in rec p n i ≡ true → reads_in rec p n i ≡ true → ⊥

@@ -1,5 +1,5 @@
 -- The witness that the judgement names is the one that the rule names; where it names none, there is no race. Assumes nothing.
-use Rattle.std.proofs.Common.{◌≡◌, ℕ, ◌<◌, true, cond, eqb, ◌↔◌, List, ◌∷◌, length, Some, None, Option, sym, refl, ap, ◌∙◌, subst, inl, inr, arith}
+use Rattle.std.proofs.Common.{◌≡◌, ℕ, ◌<◌, true, cond, eqb, List, ◌∷◌, length, Some, None, Option, sym, refl, ap, ◌∙◌, subst, inl, inr, arith}
 use Rattle.std.proofs.lemmas.Bool.Decides.{not_from_Decides}
 use Rattle.std.proofs.lemmas.Bool.{cases_Bool, cond-true, cond-false, and_parts, eqb-true, ltb-true}
 use Rattle.events.specs.declared.Event.{Event}
@@ -16,8 +16,8 @@ use Rattle.order.proofs.Searches.{first_from_cases}
 use Rattle.order.proofs.Records.{holds_at_within, at_position}
 use Rattle.order.proofs.Chains.{ordered_decides}
 use Rattle.order.proofs.Latest.{latest_some, latest_is}
-use Rattle.order.proofs.Accesses.{in_life_parts, in_life_weaker, write_touches}
-use Rattle.order.proofs.Races.{safe, write_race, read_race, before_cases}
+use Rattle.order.proofs.Accesses.{in_life_parts, in_life_weaker}
+use Rattle.order.proofs.Races.{safe, write_race, read_race}
 use Rattle.order.proofs.Faults.{lawful_thread}
 
 -- the computed latest accesses are the latest ones
@@ -97,10 +97,6 @@ module _ (rec : List Event) (e : Event) where
   witnessed_race p i (by_write t m u) = write_race rec e p i t m.holds u
   witnessed_race p i (by_read t w writes m u first) = read_race rec e p i w (read_by_reads rec p (lives rec p) t i m.holds) u
 
-  pub witnessed_touches : (p i : ℕ) → Witnessed rec e p i → touches e p ≡ true
-  witnessed_touches p i (by_write t m u) = t
-  witnessed_touches p i (by_read t w writes m u first) = write_touches e p w
-
   -- where no witness is named there is no race
   module _ (lawful : Lawful rec) (free : RaceFree rec) (p : ℕ) (none : witness rec e p ≡ None) where
     no_witness : touches e p ≡ true → (unordered rec e (latest_write rec p) ≡ None) × (cond (writes_place e p) (unordered_read rec e p) None ≡ None)
@@ -121,17 +117,3 @@ module _ (rec : List Event) (e : Event) where
 
     pub witness_none : touches e p ≡ true → (i : ℕ) → Race rec e p i → ⊥
     witness_none t = safe rec e free p (writes_passed p (no_witness t).0) (reads_passed t)
-
--- a touched place has no race just if its latest write, and for a write each thread's latest read, is ordered before e
-pub no_race_iff : (rec : List Event) (e : Event) → RaceFree rec → (p : ℕ) → touches e p ≡ true → ((i : ℕ) → Race rec e p i → ⊥) ↔ (((w : ℕ) → LatestWrite rec p w → Before rec e w) × (writes_place e p ≡ true → (t r : ℕ) → LatestRead rec p t r → Before rec e r))
-no_race_iff rec e free p touch = (
-  λ none. (
-    λ w m. elim (before_cases rec e w) [ inl b ↦ b | inr u ↦ absurd (none w (write_race rec e p w touch m.holds u)) ],
-    λ write t r m.
-        elim (before_cases rec e r) [
-          | inl b ↦ b
-          | inr u ↦ absurd (none r (read_race rec e p r write (read_by_reads rec p (lives rec p) t r m.holds) u))
-        ],
-  ),
-  λ h. safe rec e free p h.0 h.1,
-)

@@ -7,10 +7,24 @@ use Rattle.events.specs.declared.Action.{Action}
 use Rattle.events.specs.declared.Action.TheVariants.{Read, Write, Acquire, Release, ReadFlag, WriteFlag, Fork, Join, Allocate, Commit}
 use Rattle.events.specs.declared.PlaceSet.{PlaceSet}
 use Rattle.events.specs.Places.{member}
-use Rattle.order.specs.Acts.{does, allocates, writes_place, reads_place}
+use Rattle.order.specs.Acts.{by, does, allocates, writes_place, reads_place}
 use Rattle.order.specs.Judgement.{reads_by}
-use Rattle.order.specs.Slots.{Set, nobody, only, pass_in, pass_out, begins, forgets, changed, taken, given, worked}
-use Rattle.order.specs.Work.{Call, begin, forget, pass, Sets, done, all_done, forget_from, written, looked_at, committed, accesses, calls}
+use Rattle.order.specs.Slots.{Set, begins, forgets, changed, taken, given}
+use Rattle.order.specs.Work.{Call, begin, forget, pass, forget_from, written, looked_at, committed, accesses, calls}
+use Rattle.order.proofs.Passes.{pass_in, pass_out, worked, nobody, only, passed}
+
+-- the sets of all slots after a call, and after a list of calls in that order
+abbrev pub Sets : Type 0
+Sets = ℕ → Set
+
+abbrev pub done : Call → Sets → Sets
+done (begin i t) sets j = cond (eqb j i) (only t) (sets j)
+done (forget i) sets j = cond (eqb j i) nobody (sets j)
+done (pass a b) sets j = passed a b (sets j)
+
+unfoldable pub all_done : List Call → Sets → Sets
+all_done [] sets = sets
+all_done (c ∷ cs) sets = all_done cs (done c sets)
 
 pub all_done_append : (cs ds : List Call) (sets : Sets) → all_done (cs ++ ds) sets ≡ all_done ds (all_done cs sets)
 unfolding all_done
@@ -106,10 +120,6 @@ committed_at (suc n) t r w p k sets l m =
           cond-false (eqb n p) _ _ (ne_eqb n p q) ∙ ih ∙ ap (λ b. cond b x (sets (9 * p + k))) same
     ]
 
--- an event of thread t that does a
-abbrev event : ℕ → Action → Event
-event t a = record { thread = t; action = a }
-
 -- an event that accesses and allocates nothing leaves every slot
 untouched : {A : Type 0} (e : Event) (p k : ℕ) (x y z : A) → writes_place e p ≡ false → reads_place e p ≡ false → allocates e p ≡ false → z ≡ changed e p k x y z
 unfolding begins forgets reads_by
@@ -141,7 +151,7 @@ module _ {A : Type 0} (x y z : A) where
 module _ (t p : ℕ) (sets : Sets) (place : p < 64) (thread : t < 8) where
   -- the accesses of an action do to slot k of place p what the slot's rule says
   abbrev AsRuled : Action → ℕ → Type 0
-  AsRuled a k = all_done (accesses t a) sets (9 * p + k) ≡ changed (event t a) p k (only t) nobody (sets (9 * p + k))
+  AsRuled a k = all_done (accesses t a) sets (9 * p + k) ≡ changed (by t a) p k (only t) nobody (sets (9 * p + k))
 
   read_ruled : (q k : ℕ) → k < 9 → AsRuled (Read q) k
   unfolding begins forgets reads_by reads_place writes_place allocates does
@@ -174,10 +184,10 @@ module _ (t p : ℕ) (sets : Sets) (place : p < 64) (thread : t < 8) where
       let same : eqb (suc u) (t + 1) ≡ eqb t u = grind (arith, nat_tests) in
       committed_at 64 t r.word w.word p (suc u) sets l thread ∙ cond-true (ltb p 64) _ (sets (9 * p + suc u)) (lt-ltb p 64 place) ∙ commit_others (only t) nobody (sets (9 * p + suc u)) (member r.word p) (member w.word p) (eqb (suc u) 0) (eqb (suc u) (t + 1)) (eqb t u) (ne_eqb (suc u) 0 (λ z. omega arith)) same
 
-  inert : (a : Action) (k : ℕ) → accesses t a ≡ [] → writes_place (event t a) p ≡ false → reads_place (event t a) p ≡ false → allocates (event t a) p ≡ false → AsRuled a k
+  inert : (a : Action) (k : ℕ) → accesses t a ≡ [] → writes_place (by t a) p ≡ false → reads_place (by t a) p ≡ false → allocates (by t a) p ≡ false → AsRuled a k
   unfolding all_done
   inert a k nothing w r o =
-      ap (λ cs. all_done cs sets (9 * p + k)) nothing ∙ untouched (event t a) p k (only t) nobody (sets (9 * p + k)) w r o
+      ap (λ cs. all_done cs sets (9 * p + k)) nothing ∙ untouched (by t a) p k (only t) nobody (sets (9 * p + k)) w r o
 
   as_ruled : (a : Action) (k : ℕ) → k < 9 → AsRuled a k
   unfolding reads_place writes_place allocates does

@@ -49,6 +49,10 @@ write_set (Join u) = 0
 write_set (Allocate o) = 0
 write_set (Commit r w) = w.word
 
+-- the event in which thread t does a
+abbrev pub by : ℕ → Action → Event
+by t a = record { thread = t; action = a }
+
 -- the event is of that kind
 abbrev pub is : ℕ → Event → Bool
 is n e = kind e.action == n

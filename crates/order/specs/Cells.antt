@@ -8,7 +8,7 @@ use Rattle.std.specs.Prelude.{◌≡◌, ℕ, ◌+◌, Bool, false, cond, ◌||�
 use Rattle.events.specs.declared.Event.{Event}
 use Rattle.order.specs.Acts.{writes_place, touches}
 use Rattle.order.specs.Searches.{first_from, or_else}
-use Rattle.order.specs.Judgement.{Answer, accepted, declined, Finding, found}
+use Rattle.order.specs.Judgement.{Finding, found}
 use Rattle.order.specs.Slots.{Set, slot_access, taken, SlotSet}
 
 abbrev pub serial_of : Option ℕ → ℕ
@@ -37,7 +37,3 @@ cell_witness e p n s = cond (touches e p) (or_else (pending e (n 0) (s 0)) (cond
 
 unfoldable pub cell_race : Event → (ℕ → ℕ → ℕ) → (ℕ → ℕ → Set) → Option Finding
 cell_race e n s = first_from 64 0 (λ p. found p (cell_witness e p (n p) (s p)))
-
-abbrev pub cell_verdict : ℕ → Option Finding → Answer
-cell_verdict count None = accepted (count + 1)
-cell_verdict count (Some f) = declined f.place f.witness

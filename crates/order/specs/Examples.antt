@@ -2,12 +2,12 @@
 --   answers rec es   the answers to the events es, offered in that order after the record
 --   Example          events, oldest first, and the answers to them
 --   examples         the table
-use Rattle.std.specs.Prelude.{◌≡◌, ℕ, List, [], ◌∷◌}
+use Rattle.std.specs.Prelude.{◌≡◌, List, [], ◌∷◌}
 use Rattle.std.specs.List.{AllByRecursion}
 use Rattle.events.specs.declared.Event.{Event}
-use Rattle.events.specs.declared.Action.{Action}
 use Rattle.events.specs.declared.Action.TheVariants.{Read, Write, Acquire, Release, ReadFlag, WriteFlag, Fork, Join, Allocate, Commit}
 use Rattle.events.specs.declared.PlaceSet.{PlaceSet}
+use Rattle.order.specs.Acts.{by}
 use Rattle.order.specs.Judgement.{Answer, accepted, refused, declined, judge, recorded}
 
 unfoldable pub answers : List Event → List Event → List Answer
@@ -17,10 +17,6 @@ answers rec (e ∷ es) = let a = judge rec e in a ∷ answers (recorded rec e a)
 pub record Example : Type 0 where
   pub events : List Event
   pub answers : List Answer
-
--- thread t does a
-abbrev pub by : ℕ → Action → Event
-by t a = record { thread = t; action = a }
 
 abbrev pub none : PlaceSet
 none = record { word = 0 }

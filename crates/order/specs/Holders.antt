@@ -35,9 +35,6 @@ takes rec e (of_place p) = commits e p
 abbrev pub gives_at : List Event → ℕ → Holder → Bool
 gives_at rec i h = holds_at rec i (λ past e. gives past e h)
 
-abbrev pub takes_at : List Event → ℕ → Holder → Bool
-takes_at rec i h = holds_at rec i (λ past e. takes past e h)
-
 pub record Reached (rec : List Event) (i : ℕ) (h : Holder) : Type 0 where
   pub giver : ℕ
   pub from : (i ≡ giver) ⊎ Ordered rec i giver

@@ -6,7 +6,7 @@
 --                          unordered latest read of the lowest-numbered thread
 --   race rec e             the lowest place with a witness, and the witness
 --   judge rec e            the answer to e, offered after the record
-use Rattle.std.specs.Prelude.{◌≡◌, ℕ, ◌+◌, Bool, cond, ◌&&◌, List, [], ◌∷◌, length, Some, None, Option, ◌==◌}
+use Rattle.std.specs.Prelude.{ℕ, ◌+◌, Bool, cond, ◌&&◌, List, ◌∷◌, length, Some, None, Option, ◌==◌}
 use Rattle.events.specs.declared.Event.{Event}
 use Rattle.order.specs.Searches.{first_from, or_else}
 use Rattle.order.specs.Acts.{writes_place, reads_place, touches}
@@ -69,8 +69,3 @@ abbrev pub recorded : List Event → Event → Answer → List Event
 recorded rec e (accepted n) = e ∷ rec
 recorded rec e (refused n) = rec
 recorded rec e (declined p n) = rec
-
--- each event of the record was accepted when it came
-abbrev pub Accepted : List Event → Type 0
-Accepted [] = Unit {0}
-Accepted (e ∷ rec) = (judge rec e ≡ accepted (length rec + 1)) × Accepted rec

@@ -10,8 +10,6 @@ pub mod Holders
 pub mod Slots
 pub mod Examples
 pub mod Verdicts
-pub mod SlotSearch
 pub mod Cells
 pub mod Questions
-pub mod Computing
 pub mod Work

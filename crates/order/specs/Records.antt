@@ -1,7 +1,6 @@
 -- The accepted record: a list of events, the newest first. Assumes nothing.
 -- The oldest event has position 0 and serial 1; an event's serial is its position and one.
 --   holds_at rec i f   the event at position i, with the record before it, passes the test f
---   event_at rec i     the event at position i
 --   before rec i       the record before position i
 --   latest f rec       the newest position at which f holds
 --   started, ended     thread t has been forked, or is thread 0; it has been joined
@@ -18,10 +17,6 @@ Test = List Event → Event → Bool
 unfoldable pub holds_at : List Event → ℕ → Test → Bool
 holds_at [] i f = false
 holds_at (e ∷ rec) i f = cond (i == length rec) (f rec e) (holds_at rec i f)
-
-unfoldable pub event_at : List Event → ℕ → Option Event
-event_at [] i = None
-event_at (e ∷ rec) i = cond (i == length rec) (Some e) (event_at rec i)
 
 unfoldable pub before : List Event → ℕ → List Event
 before [] i = []

@@ -1,12 +1,10 @@
--- Slots: for each place its latest write (slot 0) and each thread's latest read (slot t + 1), and what an accepted event
--- does to a slot and to its set of holders, which are known by their numbers. Assumes nothing.
+-- Slots: for each place its latest write (slot 0) and each thread's latest read (slot t + 1), what an accepted event does
+-- to a slot, and the set of holders that a slot's access has reached, by their numbers. Assumes nothing.
 --   slot_access rec p k   the access that the slot stands for: of the current life, and no read older than the latest write
 --   begins, forgets       the event's access starts the slot anew, or empties it
---   passed a b s          s after a pass from a to b: b joins a set that has a
 --   taken e, given e      the holders that e passes from into its thread, and from its thread to, in ascending order
---   worked e p k s        the set after e: passes in, the access, passes out
 --   InSlot rec p k h      the slot's access has reached h
-use Rattle.std.specs.Prelude.{◌≡◌, ℕ, zero, suc, ◌+◌, Bool, true, false, cond, ◌&&◌, ◌||◌, ◌↔◌, List, [], ◌∷◌, map, Some, None, Option, ◌==◌, nat_lt}
+use Rattle.std.specs.Prelude.{◌≡◌, ℕ, zero, suc, ◌+◌, Bool, true, cond, ◌||◌, ◌↔◌, List, [], ◌∷◌, map, Some, None, Option, nat_lt}
 use Rattle.events.specs.declared.Event.{Event}
 use Rattle.events.specs.declared.Action.{Action}
 use Rattle.events.specs.declared.Action.TheVariants.{Read, Write, Acquire, Release, ReadFlag, WriteFlag, Fork, Join, Allocate, Commit}
@@ -40,29 +38,9 @@ changed e p k begun empty kept = cond (begins e p k) begun (cond (forgets e p k)
 abbrev pub Set : Type 0
 Set = ℕ → Bool
 
-abbrev pub nobody : Set
-nobody h = false
-
-abbrev pub only : ℕ → Set
-only t h = h == t
-
-abbrev pub passed : ℕ → ℕ → Set → Set
-passed a b s h = s h || h == b && s a
-
-unfoldable pub pass_in : ℕ → List ℕ → Set → Set
-pass_in t [] s = s
-pass_in t (h ∷ hs) s = pass_in t hs (passed h t s)
-
-unfoldable pub pass_out : ℕ → List ℕ → Set → Set
-pass_out t [] s = s
-pass_out t (h ∷ hs) s = pass_out t hs (passed t h s)
-
--- the holders that stand for the places below n of two sets together
-unfoldable pub place_holders_below : ℕ → ℕ → ℕ → List ℕ
-place_holders_below n r w = map (λ p. 72 + p) (those_below n (λ p. member r p || member w p))
-
-abbrev pub place_holders : ℕ → ℕ → List ℕ
-place_holders = place_holders_below 64
+-- the holders that stand for the places of two sets together
+unfoldable pub place_holders : ℕ → ℕ → List ℕ
+place_holders r w = map (λ p. 72 + p) (those_below 64 (λ p. member r p || member w p))
 
 abbrev pub taken : Action → List ℕ
 taken (Read p) = []
@@ -87,10 +65,6 @@ given (Fork u) = u ∷ []
 given (Join u) = []
 given (Allocate o) = []
 given (Commit r w) = place_holders r.word w.word
-
-unfoldable pub worked : Event → ℕ → ℕ → Set → Set
-worked e p k s =
-    pass_out e.thread (given e.action) (changed e p k (only e.thread) nobody (pass_in e.thread (taken e.action) s))
 
 pub record InSlot (rec : List Event) (p k : ℕ) (h : Holder) : Type 0 where
   pub access : ℕ

@@ -1,41 +1,20 @@
 -- The work of an accepted event on a keeper, as the calls that it makes. Assumes nothing.
 -- Place p has its write slot at 9p and the read slot of thread t at 9p + 1 + t.
 --   Call            begin a slot with a thread, forget a slot, pass from one holder to another
---   done c sets     the sets of all slots after a call
---   all_done        the sets after a list of calls, in that order
---   passes_made     how many of the calls are passes
 --   accesses t a    the begins and forgets of thread t's action a
 --   passes_of e, passes_by rec   how many passes an event makes, and all events of a record
 --   calls e         all calls of an event: passes to its thread, its accesses, passes from its thread
-use Rattle.std.specs.Prelude.{ℕ, zero, suc, ◌+◌, ◌*◌, cond, List, [], ◌∷◌, ◌++◌, map, length, ◌==◌}
+use Rattle.std.specs.Prelude.{ℕ, zero, suc, ◌+◌, ◌*◌, cond, List, [], ◌∷◌, ◌++◌, map, length}
 use Rattle.events.specs.declared.Event.{Event}
 use Rattle.events.specs.declared.Action.{Action}
 use Rattle.events.specs.declared.Action.TheVariants.{Read, Write, Acquire, Release, ReadFlag, WriteFlag, Fork, Join, Allocate, Commit}
 use Rattle.events.specs.Places.{member}
-use Rattle.order.specs.Slots.{Set, nobody, only, passed, taken, given}
+use Rattle.order.specs.Slots.{taken, given}
 
 pub data Call : Type 0 where
   begin : ℕ → ℕ → Call
   forget : ℕ → Call
   pass : ℕ → ℕ → Call
-
-abbrev pub Sets : Type 0
-Sets = ℕ → Set
-
-abbrev pub done : Call → Sets → Sets
-done (begin i t) sets j = cond (j == i) (only t) (sets j)
-done (forget i) sets j = cond (j == i) nobody (sets j)
-done (pass a b) sets j = passed a b (sets j)
-
-unfoldable pub all_done : List Call → Sets → Sets
-all_done [] sets = sets
-all_done (c ∷ cs) sets = all_done cs (done c sets)
-
-abbrev pub passes_made : List Call → ℕ
-passes_made [] = 0
-passes_made (begin i t ∷ cs) = passes_made cs
-passes_made (forget i ∷ cs) = passes_made cs
-passes_made (pass a b ∷ cs) = suc (passes_made cs)
 
 -- forgets n slots from i on
 unfoldable pub forget_from : ℕ → ℕ → List Call

@@ -5,13 +5,37 @@ use Rattle.std.proofs.lemmas.Bool.{cond-false}
 use Rattle.events.specs.declared.Event.{Event}
 use Rattle.events.specs.declared.Action.{Action}
 use Rattle.events.specs.declared.Action.TheVariants.{Read, Write, Acquire, Release, ReadFlag, WriteFlag, Fork, Join, Allocate, Commit}
-use Rattle.order.specs.Acts.{does, acquires, releases, forks, joins}
+use Rattle.order.specs.Acts.{by, does, acquires, releases, forks, joins}
 use Rattle.roster.specs.declared.roster.Roster.{Roster}
 use Rattle.roster.specs.declared.roster.ThreadState.{ThreadState}
 use Rattle.roster.specs.declared.roster.ThreadState.TheVariants.{Unstarted, Running, Ended}
-use Rattle.roster.specs.Changes.{state_after, holder_after}
 use Rattle.roster.specs.Follows.{Noted}
 use Rattle.roster.specs.States.{has_begun, is_over, state_of, holders}
+
+-- what an action makes of thread u's state s, and, done by thread t, of lock l held by h
+abbrev state_after : Action → ℕ → ThreadState → ThreadState
+state_after (Fork c) u s = cond (ltb u 8 && eqb c u) Running s
+state_after (Join c) u s = cond (ltb u 8 && eqb c u) Ended s
+state_after (Read p) u s = s
+state_after (Write p) u s = s
+state_after (Acquire k) u s = s
+state_after (Release k) u s = s
+state_after (ReadFlag f) u s = s
+state_after (WriteFlag f) u s = s
+state_after (Allocate o) u s = s
+state_after (Commit r w) u s = s
+
+abbrev holder_after : ℕ → Action → ℕ → Option ℕ → Option ℕ
+holder_after t (Acquire k) l h = cond (ltb l 32 && eqb k l) (Some t) h
+holder_after t (Release k) l h = cond (eqb k l) None h
+holder_after t (Read p) l h = h
+holder_after t (Write p) l h = h
+holder_after t (ReadFlag f) l h = h
+holder_after t (WriteFlag f) l h = h
+holder_after t (Fork c) l h = h
+holder_after t (Join c) l h = h
+holder_after t (Allocate o) l h = h
+holder_after t (Commit r w) l h = h
 
 -- in plain tests: x that the number is in range, y that it is the one named
 fork_begins : (x y : Bool) (s : ThreadState) → has_begun (cond (x && y) Running s) ≡ (x && (y || false) || has_begun s)
@@ -47,10 +71,7 @@ not_taken : {X : Type 0} (x : Bool) (a b : X) → b ≡ cond (x && false) a b
 not_taken true a b = refl
 not_taken false a b = refl
 
-abbrev does_it : ℕ → Action → Event
-does_it t a = record { thread = t; action = a }
-
-begun_after : (t : ℕ) (a : Action) (u : ℕ) (s : ThreadState) → has_begun (state_after a u s) ≡ (ltb u 8 && (forks (does_it t a) u || joins (does_it t a) u) || has_begun s)
+begun_after : (t : ℕ) (a : Action) (u : ℕ) (s : ThreadState) → has_begun (state_after a u s) ≡ (ltb u 8 && (forks (by t a) u || joins (by t a) u) || has_begun s)
 unfolding does
 begun_after t (Fork c) u s = fork_begins (ltb u 8) (eqb c u) s
 begun_after t (Join c) u s = join_begins (ltb u 8) (eqb c u) s
@@ -63,7 +84,7 @@ begun_after t (WriteFlag f) u s = none_begins (ltb u 8) (has_begun s)
 begun_after t (Allocate o) u s = none_begins (ltb u 8) (has_begun s)
 begun_after t (Commit r w) u s = none_begins (ltb u 8) (has_begun s)
 
-over_after : (t : ℕ) (a : Action) (u : ℕ) (s : ThreadState) → (ltb u 8 ≡ false → s ≡ Unstarted) → is_over (state_after a u s) ≡ (ltb u 8 && joins (does_it t a) u || not (forks (does_it t a) u) && is_over s)
+over_after : (t : ℕ) (a : Action) (u : ℕ) (s : ThreadState) → (ltb u 8 ≡ false → s ≡ Unstarted) → is_over (state_after a u s) ≡ (ltb u 8 && joins (by t a) u || not (forks (by t a) u) && is_over s)
 unfolding does
 over_after t (Fork c) u s h = fork_ends (ltb u 8) (eqb c u) s h
 over_after t (Join c) u s h = join_ends (ltb u 8) (eqb c u) s
@@ -76,7 +97,7 @@ over_after t (WriteFlag f) u s h = none_ends (ltb u 8) (is_over s)
 over_after t (Allocate o) u s h = none_ends (ltb u 8) (is_over s)
 over_after t (Commit r w) u s h = none_ends (ltb u 8) (is_over s)
 
-held_after : (t : ℕ) (a : Action) (l : ℕ) (h : Option ℕ) → holder_after t a l h ≡ cond (ltb l 32 && acquires (does_it t a) l) (Some t) (cond (releases (does_it t a) l) None h)
+held_after : (t : ℕ) (a : Action) (l : ℕ) (h : Option ℕ) → holder_after t a l h ≡ cond (ltb l 32 && acquires (by t a) l) (Some t) (cond (releases (by t a) l) None h)
 unfolding does
 held_after t (Acquire k) l h = refl
 held_after t (Release k) l h = not_taken (ltb l 32) (Some t) (cond (eqb k l) None h)

@@ -1,14 +1,14 @@
 -- A roster that is new and then notes each event that no number refuses says what the record does. Assumes nothing.
 use Rattle.std.proofs.Common.{◌≡◌, ℕ, Bool, true, false, cond, not, ◌&&◌, ◌||◌, eqb, ltb, List, [], ◌∷◌, length, Some, None, Option, Result, sym, refl, ap, ◌∙◌, subst, inl, inr}
 use mathlib.Core.Path.{fun_ext}
-use Rattle.std.proofs.lemmas.Bool.{and_cases, or_parts, or_left, not-false, both_ways, lt-ltb}
+use Rattle.std.proofs.lemmas.Bool.{and_cases, or_parts, not-false, both_ways, lt-ltb}
 use Rattle.events.specs.declared.Event.{Event}
 use Rattle.order.specs.Acts.{is, operand, acquires, releases, forks, joins}
 use Rattle.order.specs.Faults.{forked_before, joins_amiss, faults, rule, fault}
 use Rattle.order.specs.Records.{started, ended, lock_holder}
 use Rattle.order.specs.Verdicts.{NoFault}
 use Rattle.order.proofs.Acts.{does_parts}
-use Rattle.order.proofs.Faults.{no_fault_iff, forked_range, joined_range, lock_flag_range}
+use Rattle.order.proofs.Faults.{no_fault_iff, forked_range, joined_range, acquired_range}
 use Rattle.order.proofs.Roster.{started_none, started_more, ended_none, ended_more, lock_holder_none, lock_holder_more}
 use Rattle.roster.specs.declared.fault.RuleFault.{RuleFault}
 use Rattle.roster.specs.declared.roster.Roster.{Roster}
@@ -86,10 +86,6 @@ module _ (rec : List Event) (e : Event) (none : NoFault rec e) where
         | inr n ↦ subst (λ v. started rec v ≡ true) d.1 (not-false (started rec u) (or_parts (eqb u e.thread) (not (started rec u)) n).1)
       ]
 
-  acquired_range : (l : ℕ) → acquires e l ≡ true → ltb l 32 ≡ true
-  acquired_range l a =
-      lt-ltb l 32 (lock_flag_range rec e none 2 l a (or_left (is 2 e || is 3 e || is 4 e) _ (or_left (is 2 e || is 3 e) _ (or_left (is 2 e) _ (does_parts 2 e l a).0))))
-
 pub follows_note : (rec : List Event) (e : Event) (r r' : Roster) → Follows rec r → fault rec e ≡ None → Noted r e r' → Follows (e ∷ rec) r'
 follows_note rec e r r' f h noted =
     let none = (no_fault_iff rec e).0 h in
@@ -106,6 +102,6 @@ follows_note rec e r r' f h noted =
       locked = λ l.
           let at = ap (λ (g : ℕ → Option ℕ). g l) noted.locked in
           let past = ap (λ o. cond (ltb l 32 && acquires e l) (Some e.thread) (cond (releases e l) None o)) (f.locked l) in
-          let near = ap (λ b. cond b (Some e.thread) (cond (releases e l) None (lock_holder rec l))) (in_range (ltb l 32) (acquires e l) (acquired_range rec e none l)) in
+          let near = ap (λ b. cond b (Some e.thread) (cond (releases e l) None (lock_holder rec l))) (in_range (ltb l 32) (acquires e l) (λ k. lt-ltb l 32 (acquired_range rec e none l k))) in
           at ∙ past ∙ near ∙ sym (lock_holder_more rec e l);
     }

@@ -4,13 +4,14 @@ use Rattle.std.proofs.Math.Bool.{or-false}
 use Rattle.events.specs.declared.Event.{Event}
 use Rattle.events.specs.declared.Action.{Action}
 use Rattle.events.specs.declared.Action.TheVariants.{Read, Write, Acquire, Release, ReadFlag, WriteFlag, Fork, Join, Allocate, Commit}
+use Rattle.order.specs.Acts.{by}
 use Rattle.order.specs.Faults.{held_by, no_such_thread, no_such_thing, not_running, forked_before, joins_amiss, lock_held, lock_not_held, joined_holds, record_full}
 use Rattle.order.specs.Searches.{or_else}
 use Rattle.order.proofs.Faults.{rule_is}
 use Rattle.roster.specs.declared.roster.Roster.{Roster}
 use Rattle.roster.specs.declared.roster.ThreadState.{ThreadState}
 use Rattle.roster.specs.declared.roster.ThreadState.TheVariants.{Unstarted, Running, Ended}
-use Rattle.roster.specs.Checks.{strange_thread, strange_thing, range_number, child_number, state_number, lock_number, count_number, first_number}
+use Rattle.roster.specs.Checks.{strange_thread, strange_thing, range_number, child_number, state_number, lock_number, count_number}
 use Rattle.roster.specs.Numbers.{refused}
 use Rattle.roster.specs.States.{holds_some, has_begun, is_over, state_of, begun, over, holders}
 
@@ -18,10 +19,7 @@ cond_not : {X : Type 0} (b : Bool) (x y : X) → cond b x y ≡ cond (not b) y x
 cond_not true x y = refl
 cond_not false x y = refl
 
-abbrev does_it : ℕ → Action → Event
-does_it t a = record { thread = t; action = a }
-
-thread_is : (t : ℕ) (a : Action) → strange_thread t a ≡ no_such_thread (does_it t a)
+thread_is : (t : ℕ) (a : Action) → strange_thread t a ≡ no_such_thread (by t a)
 unfolding no_such_thread
 thread_is t (Fork u) = refl
 thread_is t (Join u) = refl
@@ -34,7 +32,7 @@ thread_is t (WriteFlag f) = sym (or-false (leb 8 t))
 thread_is t (Allocate o) = sym (or-false (leb 8 t))
 thread_is t (Commit r w) = sym (or-false (leb 8 t))
 
-thing_is : (t : ℕ) (a : Action) → strange_thing a ≡ no_such_thing (does_it t a)
+thing_is : (t : ℕ) (a : Action) → strange_thing a ≡ no_such_thing (by t a)
 unfolding no_such_thing
 thing_is t (Read p) = sym (or-false (leb 64 p || false) ∙ or-false (leb 64 p))
 thing_is t (Write p) = sym (or-false (leb 64 p || false) ∙ or-false (leb 64 p))
@@ -47,10 +45,10 @@ thing_is t (Fork u) = refl
 thing_is t (Join u) = refl
 thing_is t (Commit r w) = refl
 
-range_is : (t : ℕ) (a : Action) → range_number t a ≡ cond (no_such_thread (does_it t a)) (Some 1) (cond (no_such_thing (does_it t a)) (Some 2) None)
+range_is : (t : ℕ) (a : Action) → range_number t a ≡ cond (no_such_thread (by t a)) (Some 1) (cond (no_such_thing (by t a)) (Some 2) None)
 range_is t a = λ i. cond (thread_is t a i) (Some 1) (cond (thing_is t a i) (Some 2) None)
 
-child_is : (f : ℕ → Bool) (t : ℕ) (a : Action) → child_number f t a ≡ cond (forked_before f (does_it t a)) (Some 4) (cond (joins_amiss f (does_it t a)) (Some 5) None)
+child_is : (f : ℕ → Bool) (t : ℕ) (a : Action) → child_number f t a ≡ cond (forked_before f (by t a)) (Some 4) (cond (joins_amiss f (by t a)) (Some 5) None)
 unfolding forked_before joins_amiss
 child_is f t (Fork u) = refl
 child_is f t (Join u) = refl
@@ -68,7 +66,7 @@ state_parts Unstarted f t a = refl
 state_parts Running f t a = refl
 state_parts Ended f t a = refl
 
-lock_is : (h : ℕ → Option ℕ) (t : ℕ) (a : Action) → lock_number h t a ≡ cond (lock_held h (does_it t a)) (Some 6) (cond (lock_not_held h (does_it t a)) (Some 7) (cond (joined_holds h (does_it t a)) (Some 8) None))
+lock_is : (h : ℕ → Option ℕ) (t : ℕ) (a : Action) → lock_number h t a ≡ cond (lock_held h (by t a)) (Some 6) (cond (lock_not_held h (by t a)) (Some 7) (cond (joined_holds h (by t a)) (Some 8) None))
 unfolding lock_held lock_not_held joined_holds holds_some
 lock_is h t (Acquire l) = refl
 lock_is h t (Release l) = cond_not (held_by (h l) t) None (Some 7)
@@ -92,6 +90,10 @@ chain false false false false false true g h z = refl
 chain false false false false false false true h z = refl
 chain false false false false false false false true z = refl
 chain false false false false false false false false z = refl
+
+abbrev first_number : Roster → ℕ → ℕ → Action → Option ℕ
+first_number r n t a =
+    or_else (range_number t a) (or_else (state_number (state_of r t) (begun r) t a) (or_else (lock_number (holders r) t a) (count_number n)))
 
 -- the first of them all is the number that refuses the event
 pub first_is_refused : (r : Roster) (n : ℕ) (e : Event) → first_number r n e.thread e.action ≡ refused r n e

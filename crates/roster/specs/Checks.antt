@@ -6,16 +6,13 @@
 --   state_number s begun t a the first of 3 to 5, where t's state is s
 --   lock_number holders t a  the first of 6 to 8
 --   count_number n           9, where it applies
---   first_number r n t a     the first of them all
 use Rattle.std.specs.Prelude.{ℕ, Bool, false, cond, not, ◌||◌, Some, None, Option, ◌==◌, nat_le}
 use Rattle.events.specs.declared.Action.{Action}
 use Rattle.events.specs.declared.Action.TheVariants.{Read, Write, Acquire, Release, ReadFlag, WriteFlag, Fork, Join, Allocate, Commit}
 use Rattle.order.specs.Faults.{held, held_by}
-use Rattle.order.specs.Searches.{or_else}
-use Rattle.roster.specs.declared.roster.Roster.{Roster}
 use Rattle.roster.specs.declared.roster.ThreadState.{ThreadState}
 use Rattle.roster.specs.declared.roster.ThreadState.TheVariants.{Unstarted, Running, Ended}
-use Rattle.roster.specs.States.{holds_some, state_of, begun, holders}
+use Rattle.roster.specs.States.{holds_some}
 
 abbrev pub strange_thread : ℕ → Action → Bool
 strange_thread t (Fork u) = nat_le 8 t || nat_le 8 u
@@ -75,7 +72,3 @@ lock_number holder t (Commit r w) = None
 
 abbrev pub count_number : ℕ → Option ℕ
 count_number n = cond (nat_le 1000000 n) (Some 9) None
-
-abbrev pub first_number : Roster → ℕ → ℕ → Action → Option ℕ
-first_number r n t a =
-    or_else (range_number t a) (or_else (state_number (state_of r t) (begun r) t a) (or_else (lock_number (holders r) t a) (count_number n)))

@@ -2,6 +2,5 @@
 pub mod States
 pub mod Numbers
 pub mod Checks
-pub mod Changes
 pub mod Follows
 pub mod Texts

@@ -7,5 +7,4 @@ mod ranges;
 mod roster;
 
 pub use fault::RuleFault;
-pub use locks::{Lock, LockTable};
-pub use roster::{Roster, ThreadState};
+pub use roster::Roster;

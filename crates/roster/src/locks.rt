@@ -5,7 +5,7 @@ ghost use Rattle.roster.specs.States.{holder_of, holds_some};
 
 // One lock, and the thread that holds it.
 #[derive(Clone, Copy)]
-pub struct Lock {
+struct Lock {
     holder: Option<u8>,
 }
 
@@ -19,13 +19,13 @@ impl Lock {
 
 // One record for each lock, so that one element is read or changed at a time.
 #[derive(Drop)]
-pub struct LockTable {
+pub(crate) struct LockTable {
     locks: [Lock; 32],
 }
 
 impl LockTable {
     // All locks are free.
-    pub fn new() -> LockTable
+    pub(crate) fn new() -> LockTable
         ensures { holder_of result ≡ (λ _. None) }
     {
         LockTable {
@@ -34,13 +34,13 @@ impl LockTable {
     }
 
     // The thread that holds the lock; no lock of 32 or more is ever held.
-    pub fn holder(&self, lock: u8) -> Option<u8>
+    pub(crate) fn holder(&self, lock: u8) -> Option<u8>
         ensures { result ≡ holder_of self.now lock }
     {
         self.locks.get(usize::from(lock))?.holder
     }
 
-    pub fn is_held_by(&self, lock: u8, thread: u8) -> bool
+    pub(crate) fn is_held_by(&self, lock: u8, thread: u8) -> bool
         ensures { result ≡ held_by (holder_of self.now lock) thread }
     {
         self.holder(lock) == Some(thread)
@@ -48,21 +48,21 @@ impl LockTable {
 
     // Whether the thread holds any lock. Only a join asks, so that it is kept out of what asks each event.
     #[inline(never)]
-    pub fn holds_any(&self, thread: u8) -> bool
+    pub(crate) fn holds_any(&self, thread: u8) -> bool
         ensures { result ≡ holds_some 32 (holder_of self.now) thread }
     {
         self.locks.iter().any(|lock| lock.holder == Some(thread))
     }
 
     // The thread now holds the lock. This and `release` are two promises; the work is done once, by `set_holder`.
-    pub fn acquire(&mut self, lock: u8, thread: u8)
+    pub(crate) fn acquire(&mut self, lock: u8, thread: u8)
         ensures { (l : ℕ) → holder_of self.new l ≡ (if nat_lt l 32 && lock == l then Some thread else holder_of self.old l) }
     {
         self.set_holder(lock, Some(thread))
     }
 
     // Nobody holds the lock now.
-    pub fn release(&mut self, lock: u8)
+    pub(crate) fn release(&mut self, lock: u8)
         ensures { (l : ℕ) → holder_of self.new l ≡ (if nat_eq lock l then None else holder_of self.old l) }
     {
         self.set_holder(lock, None)

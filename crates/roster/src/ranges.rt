@@ -5,7 +5,7 @@ ghost use Rattle.roster.specs.Checks.{strange_thread, strange_thing};
 use events::{Action, Event};
 
 // Number 1: there are 8 threads.
-pub fn no_such_thread(event: Event) -> bool
+pub(crate) fn no_such_thread(event: Event) -> bool
     ensures { result ≡ strange_thread event.thread event.action }
 {
     match event.action {
@@ -15,7 +15,7 @@ pub fn no_such_thread(event: Event) -> bool
 }
 
 // Number 2: there are 64 places, 32 locks, 32 flags and 16 objects.
-pub fn no_such_thing(event: Event) -> bool
+pub(crate) fn no_such_thing(event: Event) -> bool
     ensures { result ≡ strange_thing event.action }
 {
     match event.action {

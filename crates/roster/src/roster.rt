@@ -1,6 +1,5 @@
 // The roster: the state of each thread, and the locks.
 ghost use Rattle.std.specs.Prelude.{◌≡◌, ℕ, ◌&&◌, if◌then◌else◌, ◌==◌, nat_lt};
-ghost use Rattle.roster.specs.Changes.{state_after, holder_after};
 ghost use Rattle.roster.specs.Checks.{range_number, state_number, lock_number, count_number};
 ghost use Rattle.roster.specs.Follows.{Fresh, Noted};
 ghost use Rattle.roster.specs.Numbers.{numbered, refused};
@@ -12,8 +11,8 @@ use crate::ranges::{no_such_thing, no_such_thread};
 use events::{Action, Event};
 
 // A thread is forked once, runs, and has ended when it is first joined.
-#[derive(Clone, Copy, PartialEq, Eq, Debug)]
-pub enum ThreadState {
+#[derive(Clone, Copy)]
+enum ThreadState {
     Unstarted,
     Running,
     Ended,

@@ -1,7 +1,8 @@
 -- Accesses on slot k of place p, by the number 9p + k of the slot. Assumes nothing.
 use Rattle.std.proofs.Common.{◌≡◌, ℕ, zero, suc, ◌+◌, ◌*◌, ◌/◌, ◌<◌, ◌≤◌, Bool, true, false, cond, not, ◌&&◌, ◌||◌, eqb, ltb, leb, [], sym, refl, ap, ◌∙◌, inl, inr, arith}
+use Rattle.std.proofs.Math.Bool.{or-false}
 use Rattle.std.proofs.lemmas.Bool.{cases_eq, cond-true, cond-false, and_left, and_right, or_from, ne_eqb, eq-eqb}
-use Rattle.std.proofs.lemmas.Bool.Decides.{nat_tests}
+use Rattle.std.proofs.lemmas.Bool.Decides.{nat_tests, same_from_decides}
 use Rattle.events.specs.declared.Event.{Event}
 use Rattle.events.specs.declared.Action.{Action}
 use Rattle.events.specs.declared.Action.TheVariants.{Read, Write, Acquire, Release, ReadFlag, WriteFlag, Fork, Join, Allocate, Commit}
@@ -10,8 +11,8 @@ use lib.Bits.{bit_or}
 use Rattle.events.specs.Places.{member, those_below}
 use Rattle.order.proofs.Passes.{has, has_those_below, those_below_has}
 use Rattle.slots.proofs.Places.{member_or}
-use Rattle.order.specs.Acts.{allocates, writes_place, reads_place}
-use Rattle.order.specs.Computing.{acts}
+use Rattle.order.specs.Acts.{by, allocates, writes_place, reads_place}
+use Rattle.order.proofs.Computing.{acts}
 use Rattle.order.specs.Slots.{begins, forgets, changed}
 use Rattle.order.specs.Work.{accesses}
 use Rattle.keepers.specs.Meaning.{is_slot}
@@ -96,43 +97,30 @@ pub commit_places : (r w u n p k x : ℕ) → p < 64 → cond (has (those_below 
 unfolding by_commit
 commit_places r w u n p k x place =
     let f = member (bit_or r w) in
-    ap (λ b. cond b (at_place w u n p k x) x) (same_bool (has (those_below 64 f) p) (f p) (λ h. (those_below_has 64 f p h).1) (has_those_below 64 f p place) ∙ member_or r w p) ∙ at_test (member r p) (member w p)
+    ap (λ b. cond b (at_place w u n p k x) x) (same_from_decides (has (those_below 64 f) p) (f p) (λ h. (those_below_has 64 f p h).1, has_those_below 64 f p place) (λ h. h, λ h. h) ∙ member_or r w p) ∙ at_test (member r p) (member w p)
   where
-    same_bool : (a b : Bool) → (a ≡ true → b ≡ true) → (b ≡ true → a ≡ true) → a ≡ b
-    same_bool true b f g = sym (f refl)
-    same_bool false true f g = g refl
-    same_bool false false f g = refl
-
     at_test : (a b : Bool) → cond (a || b) (cond b (cond (eqb k 0) n 0) (cond (eqb k (u + 1)) n x)) x ≡ cond b (cond (eqb k 0) n 0) (cond (a && eqb k (u + 1)) n x)
     at_test true true = refl
     at_test true false = refl
     at_test false true = refl
     at_test false false = refl
 
--- an event of thread t that does a
-abbrev event : ℕ → Action → Event
-event t a = record { thread = t; action = a }
-
 -- the rule of a slot, for the serial n of an event of thread t
 module _ (t p : ℕ) (n x : ℕ) where
-  read_rule : (q k : ℕ) → by_read q t n p k x ≡ changed (event t (Read q)) p k n 0 x
+  read_rule : (q k : ℕ) → by_read q t n p k x ≡ changed (by t (Read q)) p k n 0 x
   unfolding acts begins forgets by_read
   read_rule q zero = cond-false (eqb q p && eqb 0 (t + 1)) n x (and_right (eqb q p) (eqb 0 (t + 1)) (ne_eqb 0 (t + 1) (λ z. omega arith)))
   read_rule q (suc u) =
       let same : (eqb q p && eqb (suc u) (t + 1)) ≡ ((eqb q p || false) && eqb t u) = grind (arith, nat_tests) in
       ap (λ b. cond b n x) same
 
-  or_false : (b : Bool) → b ≡ (b || false)
-  or_false true = refl
-  or_false false = refl
-
-  write_rule : (q k : ℕ) → by_write q n p k x ≡ changed (event t (Write q)) p k n 0 x
+  write_rule : (q k : ℕ) → by_write q n p k x ≡ changed (by t (Write q)) p k n 0 x
   unfolding acts begins forgets by_write
-  write_rule q zero = ap (λ b. cond b n x) (or_false (eqb q p))
+  write_rule q zero = ap (λ b. cond b n x) (sym (or-false (eqb q p)))
   write_rule q (suc u) =
-      ap (λ b. cond (eqb q p) b x) (cond-false (eqb (suc u) 0) n 0 (ne_eqb (suc u) 0 (λ z. omega arith))) ∙ ap (λ b. cond b 0 x) (or_false (eqb q p))
+      ap (λ b. cond (eqb q p) b x) (cond-false (eqb (suc u) 0) n 0 (ne_eqb (suc u) 0 (λ z. omega arith))) ∙ ap (λ b. cond b 0 x) (sym (or-false (eqb q p)))
 
-  allocate_rule : (o k : ℕ) → k < 9 → cond (leb (36 * o) (9 * p + k) && ltb (9 * p + k) (36 * o + 36)) 0 x ≡ changed (event t (Allocate o)) p k n 0 x
+  allocate_rule : (o k : ℕ) → k < 9 → cond (leb (36 * o) (9 * p + k) && ltb (9 * p + k) (36 * o + 36)) 0 x ≡ changed (by t (Allocate o)) p k n 0 x
   unfolding acts begins forgets
   allocate_rule o zero l =
       let same : (leb (36 * o) (9 * p + 0) && ltb (9 * p + 0) (36 * o + 36)) ≡ eqb o (p / 4) = grind (arith, nat_tests) in
@@ -152,7 +140,7 @@ module _ (t p : ℕ) (n x : ℕ) where
   commit_others true false a b c h q = ap (λ d. cond d n x) q
   commit_others false false a b c h q = refl
 
-  commit_rule : (r w : PlaceSet) (k : ℕ) → by_commit r.word w.word t n p k x ≡ changed (event t (Commit r w)) p k n 0 x
+  commit_rule : (r w : PlaceSet) (k : ℕ) → by_commit r.word w.word t n p k x ≡ changed (by t (Commit r w)) p k n 0 x
   unfolding acts begins forgets by_commit
   commit_rule r w zero = commit_first (member r.word p) (member w.word p) (eqb 0 (t + 1)) (ne_eqb 0 (t + 1) (λ z. omega arith))
   commit_rule r w (suc u) =
@@ -161,20 +149,20 @@ module _ (t p : ℕ) (n x : ℕ) where
 
 -- the same for an event that is known to do it
 module _ (e : Event) (p k n x : ℕ) where
-  by : (a : Action) → e.action ≡ a → changed (event e.thread a) p k n 0 x ≡ changed e p k n 0 x
-  by a is = ap (λ b. changed (event e.thread b) p k n 0 x) (sym is)
+  ruled : (a : Action) → e.action ≡ a → changed (by e.thread a) p k n 0 x ≡ changed e p k n 0 x
+  ruled a is = ap (λ b. changed (by e.thread b) p k n 0 x) (sym is)
 
   pub read_ruled : (q : ℕ) → e.action ≡ Read q → by_read q e.thread n p k x ≡ changed e p k n 0 x
-  read_ruled q is = read_rule e.thread p n x q k ∙ by (Read q) is
+  read_ruled q is = read_rule e.thread p n x q k ∙ ruled (Read q) is
 
   pub write_ruled : (q : ℕ) → e.action ≡ Write q → by_write q n p k x ≡ changed e p k n 0 x
-  write_ruled q is = write_rule e.thread p n x q k ∙ by (Write q) is
+  write_ruled q is = write_rule e.thread p n x q k ∙ ruled (Write q) is
 
   pub allocate_ruled : (o : ℕ) → e.action ≡ Allocate o → k < 9 → cond (leb (36 * o) (9 * p + k) && ltb (9 * p + k) (36 * o + 36)) 0 x ≡ changed e p k n 0 x
-  allocate_ruled o is l = allocate_rule e.thread p n x o k l ∙ by (Allocate o) is
+  allocate_ruled o is l = allocate_rule e.thread p n x o k l ∙ ruled (Allocate o) is
 
   pub commit_ruled : (r w : PlaceSet) → e.action ≡ Commit r w → by_commit r.word w.word e.thread n p k x ≡ changed e p k n 0 x
-  commit_ruled r w is = commit_rule e.thread p n x r w k ∙ by (Commit r w) is
+  commit_ruled r w is = commit_rule e.thread p n x r w k ∙ ruled (Commit r w) is
 
 -- an event that accesses and allocates nothing leaves every slot
 still : (e : Event) (p k n x : ℕ) → writes_place e p ≡ false → reads_place e p ≡ false → allocates e p ≡ false → x ≡ changed e p k n 0 x
@@ -202,16 +190,16 @@ no_accesses t (Join u) i = refl
 no_accesses t (Allocate o) i = absurd (i.allocate o refl)
 no_accesses t (Commit r w) i = absurd (i.commit r w refl)
 
-inert_rule : (t : ℕ) (a : Action) → Inert a → (p k n x : ℕ) → x ≡ changed (event t a) p k n 0 x
+inert_rule : (t : ℕ) (a : Action) → Inert a → (p k n x : ℕ) → x ≡ changed (by t a) p k n 0 x
 unfolding acts
 inert_rule t (Read q) i p k n x = absurd (i.read q refl)
 inert_rule t (Write q) i p k n x = absurd (i.write q refl)
-inert_rule t (Acquire l) i p k n x = still (event t (Acquire l)) p k n x refl refl refl
-inert_rule t (Release l) i p k n x = still (event t (Release l)) p k n x refl refl refl
-inert_rule t (ReadFlag f) i p k n x = still (event t (ReadFlag f)) p k n x refl refl refl
-inert_rule t (WriteFlag f) i p k n x = still (event t (WriteFlag f)) p k n x refl refl refl
-inert_rule t (Fork u) i p k n x = still (event t (Fork u)) p k n x refl refl refl
-inert_rule t (Join u) i p k n x = still (event t (Join u)) p k n x refl refl refl
+inert_rule t (Acquire l) i p k n x = still (by t (Acquire l)) p k n x refl refl refl
+inert_rule t (Release l) i p k n x = still (by t (Release l)) p k n x refl refl refl
+inert_rule t (ReadFlag f) i p k n x = still (by t (ReadFlag f)) p k n x refl refl refl
+inert_rule t (WriteFlag f) i p k n x = still (by t (WriteFlag f)) p k n x refl refl refl
+inert_rule t (Fork u) i p k n x = still (by t (Fork u)) p k n x refl refl refl
+inert_rule t (Join u) i p k n x = still (by t (Join u)) p k n x refl refl refl
 inert_rule t (Allocate o) i p k n x = absurd (i.allocate o refl)
 inert_rule t (Commit r w) i p k n x = absurd (i.commit r w refl)
 

@@ -9,14 +9,15 @@ use Rattle.events.specs.declared.Action.TheVariants.{Read, Write, Acquire, Relea
 use Rattle.events.specs.Places.{member}
 use Rattle.keepers.specs.Meaning.{Meaning}
 use Rattle.keepers.proofs.Laws.{sets_begun, sets_forgotten, sets_passed, passes_begun, passes_forgotten, passes_passed}
-use Rattle.order.specs.Slots.{Set, nobody, only, taken, given, worked}
-use Rattle.order.specs.Work.{Call, begin, forget, pass, Sets, done, all_done, passes_made, forget_from, written, looked_at, committed, accesses, calls, passes_of}
-use Rattle.order.proofs.Work.{calls_work}
-use Rattle.order.proofs.PassCounts.{calls_passes}
+use Rattle.order.specs.Slots.{Set, taken, given}
+use Rattle.order.specs.Work.{Call, begin, forget, pass, forget_from, written, looked_at, committed, accesses, calls, passes_of}
+use Rattle.order.proofs.Work.{calls_work, Sets, done, all_done}
+use Rattle.order.proofs.PassCounts.{calls_passes, passes_made}
 use Rattle.slots.specs.Bounds.{InBounds}
 use Rattle.slots.specs.Made.{called, made, passes_in, passes_out, set_at}
-use Rattle.slots.specs.HoldersLeft.{AllHolders}
 use Rattle.slots.proofs.Ranges.{Ranged, in_range, thread_in_range, taken_holders, given_holders}
+use Rattle.order.proofs.Passes.{worked, nobody, only}
+use Rattle.slots.proofs.Places.{AllHolders}
 
 -- the call's numbers are in range
 abbrev Fits : Call → Type 0

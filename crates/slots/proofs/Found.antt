@@ -16,9 +16,9 @@ use Rattle.events.specs.declared.Event.{Event}
 use Rattle.events.specs.declared.Action.{Action}
 use Rattle.events.specs.declared.Action.TheVariants.{Read, Write, Acquire, Release, ReadFlag, WriteFlag, Fork, Join, Allocate, Commit}
 use Rattle.events.specs.declared.PlaceSet.{PlaceSet}
-use Rattle.order.specs.Acts.{touches, writes_place, reads_place}
+use Rattle.order.specs.Acts.{by, touches, writes_place, reads_place}
 use Rattle.order.specs.Cells.{some_in, arrived, pending, cell_read, cell_witness, cell_race}
-use Rattle.order.specs.Computing.{acts}
+use Rattle.order.proofs.Computing.{acts}
 use Rattle.order.specs.Judgement.{Finding, found}
 use Rattle.order.specs.Searches.{first_from, or_else}
 use Rattle.order.specs.Slots.{Set, taken}
@@ -166,25 +166,22 @@ module _ (e : Event) (bounds : InBounds e) (n : ℕ → ℕ → ℕ) (m : Meanin
   race_in_range = first_from_same _ _ 64 0 (λ p _ l. ap (found p) (witness_in_range p (omega arith)))
 
 -- which places an event touches
-abbrev event : ℕ → Action → Event
-event t a = record { thread = t; action = a }
-
-touched_by_read : (t p q : ℕ) → (q ≡ p → ⊥) → touches (event t (Read p)) q ≡ false
+touched_by_read : (t p q : ℕ) → (q ≡ p → ⊥) → touches (by t (Read p)) q ≡ false
 unfolding acts
 touched_by_read t p q o = or_from (eqb p q) false (ne_eqb p q (λ e. o (sym e))) refl
 
-touched_by_write : (t p q : ℕ) → (q ≡ p → ⊥) → touches (event t (Write p)) q ≡ false
+touched_by_write : (t p q : ℕ) → (q ≡ p → ⊥) → touches (by t (Write p)) q ≡ false
 unfolding acts
 touched_by_write t p q o = or_from (eqb p q || false) false (or_from (eqb p q) false (ne_eqb p q (λ e. o (sym e))) refl) refl
 
 pub read_touches : (e : Event) (p : ℕ) → e.action ≡ Read p → (q : ℕ) → (q ≡ p → ⊥) → touches e q ≡ false
-read_touches e p is q o = ap (λ a. touches (event e.thread a) q) is ∙ touched_by_read e.thread p q o
+read_touches e p is q o = ap (λ a. touches (by e.thread a) q) is ∙ touched_by_read e.thread p q o
 
 pub write_touches : (e : Event) (p : ℕ) → e.action ≡ Write p → (q : ℕ) → (q ≡ p → ⊥) → touches e q ≡ false
-write_touches e p is q o = ap (λ a. touches (event e.thread a) q) is ∙ touched_by_write e.thread p q o
+write_touches e p is q o = ap (λ a. touches (by e.thread a) q) is ∙ touched_by_write e.thread p q o
 
 -- a commit touches no place outside its sets
-touched_by_commit : (t : ℕ) (r w : PlaceSet) (q : ℕ) → (member r.word q || member w.word q) ≡ false → touches (event t (Commit r w)) q ≡ false
+touched_by_commit : (t : ℕ) (r w : PlaceSet) (q : ℕ) → (member r.word q || member w.word q) ≡ false → touches (by t (Commit r w)) q ≡ false
 unfolding acts
 touched_by_commit t r w q out = at_test (member r.word q) (member w.word q) out
   where
@@ -194,7 +191,7 @@ touched_by_commit t r w q out = at_test (member r.word q) (member w.word q) out
     at_test false false out = refl
 
 pub commit_touches : (e : Event) (r w : PlaceSet) → e.action ≡ Commit r w → (q : ℕ) → (member r.word q || member w.word q) ≡ false → touches e q ≡ false
-commit_touches e r w is q out = ap (λ a. touches (event e.thread a) q) is ∙ touched_by_commit e.thread r w q out
+commit_touches e r w is q out = ap (λ a. touches (by e.thread a) q) is ∙ touched_by_commit e.thread r w q out
 
 -- the action is none of those that access places
 pub record Apart (a : Action) : Type 0 where
@@ -202,7 +199,7 @@ pub record Apart (a : Action) : Type 0 where
   pub write : (q : ℕ) → a ≡ Write q → ⊥
   pub commit : (r w : PlaceSet) → a ≡ Commit r w → ⊥
 
-apart_touches : (t : ℕ) (a : Action) → Apart a → (q : ℕ) → touches (event t a) q ≡ false
+apart_touches : (t : ℕ) (a : Action) → Apart a → (q : ℕ) → touches (by t a) q ≡ false
 unfolding acts
 apart_touches t (Read p) i q = absurd (i.read p refl)
 apart_touches t (Write p) i q = absurd (i.write p refl)

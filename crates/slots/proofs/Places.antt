@@ -1,20 +1,18 @@
 -- The holders of the places of a set. Assumes nothing.
 use Rattle.std.proofs.Common.{◌≡◌, ℕ, zero, suc, ◌+◌, ◌/◌, ◌%◌, ◌^◌, ◌<◌, ◌≤◌, min, max, Bool, true, false, cond, ◌&&◌, ◌||◌, eqb, ltb, List, [], ◌∷◌, map, refl, sym, ap, ◌∙◌, inl, inr, subst, arith}
 use mathlib.Core.Path.{fun_ext}
-use lib.Bits.{bit_or, or_step, or_shr}
+use lib.Bits.{bit_or, or_shr}
 use Rattle.std.proofs.lemmas.Bool.Decides.{nat_tests}
 use Rattle.std.specs.List.{AllByRecursion, list_any}
 use Rattle.std.proofs.ByRecursion.{All-append}
 use Rattle.std.proofs.lemmas.Bool.{cases_lt, lt-ltb, le-ltb, and_from, and_left, and_right}
 use Rattle.events.specs.Places.{member, those_below}
 use Rattle.keepers.specs.Meaning.{Meaning, is_slot, is_holder}
-use Rattle.order.specs.Slots.{place_holders_below, place_holders}
+use Rattle.order.specs.Slots.{place_holders}
 use Rattle.order.specs.Cells.{some_in}
 use Rattle.slots.specs.Made.{held}
-use Rattle.slots.specs.HoldersLeft.{capped, AllHolders}
-
-or_bit : (a b : ℕ) → bit_or a b % 2 ≡ max (a % 2) (b % 2)
-or_bit a b = omega (arith, or_step a b)
+use Rattle.slots.specs.HoldersLeft.{capped}
+use Rattle.order.proofs.PassCounts.{or_bit}
 
 either_bit : (p a b : ℕ) → a < 2 → b < 2 → (ltb p 64 && eqb (max a b) 1) ≡ (ltb p 64 && eqb a 1 || ltb p 64 && eqb b 1)
 either_bit p a b l m = grind (arith, nat_tests)
@@ -25,7 +23,7 @@ member_or r w p =
     ap (λ n. ltb p 64 && eqb n 1) (ap (λ x. x % 2) (or_shr r w p) ∙ or_bit (r / 2 ^ p) (w / 2 ^ p)) ∙ either_bit p (r / 2 ^ p % 2) (w / 2 ^ p % 2) (omega arith) (omega arith)
 
 pub union_holders : (r w : ℕ) → map (λ p. 72 + p) (those_below 64 (member (bit_or r w))) ≡ place_holders r w
-unfolding place_holders_below
+unfolding place_holders
 union_holders r w = ap (λ (f : ℕ → Bool). map (λ p. 72 + p) (those_below 64 f)) (fun_ext (member_or r w))
 
 -- those below n are below n
@@ -41,16 +39,20 @@ those_small (suc n) m f l = All-append (λ p. p < m) (those_below n f) _ (those_
 pub first_small : (f : ℕ → Bool) (p : ℕ) (ps : List ℕ) → those_below 64 f ≡ p ∷ ps → p < 64
 first_small f p ps is = (subst (AllByRecursion (λ q. q < 64)) is (those_small 64 64 f (omega arith))).0
 
+-- every one of hs is the number of a holder
+abbrev pub AllHolders : List ℕ → Type 0
+AllHolders hs = AllByRecursion (λ h. h < 136) hs
+
 -- every holder of a place is below 136
 shifted_small : (ps : List ℕ) → AllByRecursion (λ p. p < 64) ps → AllHolders (map (λ p. 72 + p) ps)
 shifted_small [] small = tt
 shifted_small (p ∷ ps) small = (let l = small.0 in omega arith, shifted_small ps small.1)
 
-pub holders_small : (n r w : ℕ) → n ≤ 64 → AllByRecursion (λ h. h < 136) (place_holders_below n r w)
-unfolding place_holders_below
-holders_small n r w l = shifted_small _ (those_small n 64 _ l)
+pub holders_small : (r w : ℕ) → AllHolders (place_holders r w)
+unfolding place_holders
+holders_small r w = shifted_small _ (those_small 64 64 _ (omega arith))
 
-pub capped_same : (hs : List ℕ) → AllByRecursion (λ h. h < 136) hs → capped hs ≡ hs
+pub capped_same : (hs : List ℕ) → AllHolders hs → capped hs ≡ hs
 capped_same [] small = refl
 capped_same (h ∷ hs) small = let l = small.0 in let same : min h 255 ≡ h = omega arith in (λ d. same d ∷ capped_same hs small.1 d)
 

@@ -5,12 +5,12 @@ use Rattle.std.proofs.lemmas.Bool.Decides.{nat_tests}
 use Rattle.events.specs.declared.Event.{Event}
 use Rattle.events.specs.declared.Action.{Action}
 use Rattle.events.specs.declared.Action.TheVariants.{Read, Write, Acquire, Release, ReadFlag, WriteFlag, Fork, Join, Allocate, Commit}
+use Rattle.order.specs.Acts.{by}
 use Rattle.order.specs.Faults.{no_such_thread, no_such_thing, faults}
 use Rattle.order.specs.Slots.{taken, given}
 use Rattle.order.specs.Verdicts.{NoFault}
 use Rattle.slots.specs.Bounds.{InBounds}
-use Rattle.slots.specs.HoldersLeft.{AllHolders}
-use Rattle.slots.proofs.Places.{holders_small}
+use Rattle.slots.proofs.Places.{holders_small, AllHolders}
 
 -- the operand of the action is in range
 abbrev pub Ranged : Action → Type 0
@@ -25,10 +25,7 @@ Ranged (Join u) = u < 8
 Ranged (Allocate o) = o < 16
 Ranged (Commit r w) = Unit {0}
 
-abbrev event : ℕ → Action → Event
-event t a = record { thread = t; action = a }
-
-ranged : (t : ℕ) (a : Action) → InBounds (event t a) → Ranged a
+ranged : (t : ℕ) (a : Action) → InBounds (by t a) → Ranged a
 unfolding no_such_thread no_such_thing
 ranged t (Read p) b = let h = b.thing in grind (arith, nat_tests)
 ranged t (Write p) b = let h = b.thing in grind (arith, nat_tests)
@@ -62,7 +59,7 @@ taken_holders (WriteFlag f) l = tt
 taken_holders (Fork u) l = tt
 taken_holders (Join u) l = (omega arith, tt)
 taken_holders (Allocate o) l = tt
-taken_holders (Commit r w) l = holders_small 64 r.word w.word (omega arith)
+taken_holders (Commit r w) l = holders_small r.word w.word
 
 pub given_holders : (a : Action) → Ranged a → AllHolders (given a)
 given_holders (Read p) l = tt
@@ -74,7 +71,7 @@ given_holders (WriteFlag f) l = (omega arith, tt)
 given_holders (Fork u) l = (omega arith, tt)
 given_holders (Join u) l = tt
 given_holders (Allocate o) l = tt
-given_holders (Commit r w) l = holders_small 64 r.word w.word (omega arith)
+given_holders (Commit r w) l = holders_small r.word w.word
 
 -- an event that no rule refuses is in bounds
 pub in_bounds : (rec : List Event) (e : Event) → NoFault rec e → InBounds e

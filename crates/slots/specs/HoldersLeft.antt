@@ -1,9 +1,7 @@
 -- The holders with whom an event shares. Assumes nothing.
 --   holders_left i     the holders that an iterator over them has still to give
---   AllHolders hs      every one of hs is the number of a holder
 --   capped hs          hs with every number past a byte's end put down to 255, which is no holder either
-use Rattle.std.specs.Prelude.{ℕ, ◌+◌, ◌<◌, min, List, ◌++◌, map}
-use Rattle.std.specs.List.{AllByRecursion}
+use Rattle.std.specs.Prelude.{ℕ, ◌+◌, min, List, ◌++◌, map}
 use Rattle.std.specs.Option.{option_to_list}
 use Rattle.events.specs.Places.{places_left}
 use Rattle.slots.specs.declared.holders.Holders.{Holders}
@@ -13,6 +11,3 @@ holders_left i = option_to_list i.one ++ map (λ p. 72 + p) (places_left i.place
 
 abbrev pub capped : List ℕ → List ℕ
 capped hs = map (λ h. min h 255) hs
-
-abbrev pub AllHolders : List ℕ → Type 0
-AllHolders hs = AllByRecursion (λ h. h < 136) hs

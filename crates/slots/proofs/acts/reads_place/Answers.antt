@@ -1,7 +1,7 @@
 use Rattle.std.proofs.Common.{not, ◌&&◌, ap, ◌∙◌, arith}
 use Rattle.std.proofs.lemmas.Bool.Decides.{nat_tests}
 use Rattle.events.specs.Places.{member}
-use Rattle.order.specs.Computing.{acts}
+use Rattle.order.proofs.Computing.{acts}
 use Rattle.slots.proofs.acts.reads_place.Goals as goal
 
 pub returns-in-Read : goal.returns-in-Read

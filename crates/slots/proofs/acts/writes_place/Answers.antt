@@ -1,6 +1,6 @@
 use Rattle.std.proofs.lemmas.Bool.Decides.{nat_tests}
 use Rattle.std.proofs.Common.{arith}
-use Rattle.order.specs.Computing.{acts}
+use Rattle.order.proofs.Computing.{acts}
 use Rattle.slots.proofs.acts.writes_place.Goals as goal
 
 pub returns-in-Write : goal.returns-in-Write

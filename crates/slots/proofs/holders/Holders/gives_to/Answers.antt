@@ -1,4 +1,4 @@
-use Rattle.std.proofs.Common.{sym, ◌∙◌, arith}
+use Rattle.std.proofs.Common.{sym, ◌∙◌}
 use Rattle.order.specs.Slots.{place_holders}
 use Rattle.slots.proofs.Places.{holders_small, capped_same}
 use Rattle.slots.proofs.holders.Holders.gives_to.Goals as goal
@@ -7,4 +7,4 @@ pub returns-in-Commit : goal.returns-in-Commit
 returns-in-Commit c =
     let r = c.in-Commit.reads.word in
     let w = c.in-Commit.writes.word in
-    c.of_places.ensures ∙ rw c.in-Commit.is (sym (capped_same (place_holders r w) (holders_small 64 r w (omega arith))))
+    c.of_places.ensures ∙ rw c.in-Commit.is (sym (capped_same (place_holders r w) (holders_small r w)))
