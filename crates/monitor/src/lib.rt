@@ -9,7 +9,7 @@ mod theorems;
 mod verdict;
 
 pub use monitor::Monitor;
-pub use session::{Call, Reply, Session, abandon_all, answer_all};
+pub use session::{Call, Reply, abandon_all, answer_all};
 pub use slip::Slip;
 pub use theorems::{
     commits_pass_twice, examples_are_judged, one_answer_is_right, order_is_decided,

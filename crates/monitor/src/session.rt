@@ -1,7 +1,8 @@
 // A whole list of calls on a new monitor, answered one after another.
-ghost use Rattle.std.specs.Prelude.{◌≡◌, List, [], ◌∷◌, ◌++◌, IfOk, OnOk, OnErr};
+ghost use Rattle.std.specs.Prelude.{◌≡◌, ◌<◌, ◌≤◌, ◌↔◌, List, [], ◌∷◌, ◌++◌, length, vec_capacity, IsOk, IfOk, IfErr, OnOk, OnErr};
 ghost use Rattle.events.specs.declared.Event.{Event as AnEvent};
 ghost use Rattle.std.specs.List.{AllByRecursion};
+ghost use Rattle.std.specs.VecDeque.{deque_len, deque_capacity};
 ghost use Rattle.order.specs.Examples.{examples};
 ghost use Rattle.monitor.specs.Promise.{RightReply, after, record_after, Promise, AnsweredAs};
 ghost use Rattle.monitor.specs.Stands.{Stands};
@@ -13,7 +14,7 @@ use events::Event;
 use keepers::Keeper;
 use roster::RuleFault;
 use slots::Told;
-use std::alloc::{AllocError, Global};
+use std::alloc::AllocError;
 use std::collections::VecDeque;
 
 // What can be asked of a monitor. A slip to commit is a real one, so a call is spent too.
@@ -32,13 +33,6 @@ pub enum Reply {
     Shown(Result<Option<Told>, RuleFault>),
 }
 
-// The monitor after all calls, and the answer to each, in order.
-#[derive(Drop)]
-pub struct Session<K: Keeper> {
-    pub monitor: Monitor<K>,
-    pub replies: Vec<Reply>,
-}
-
 // Makes one call.
 fn answer<K: Keeper>(monitor: &mut Monitor<K>, call: Call) -> Reply
     ensures { (rec : List AnEvent) → Stands rec monitor.old → RightReply rec call result × Stands (after rec call result) monitor.new }
@@ -52,10 +46,11 @@ fn answer<K: Keeper>(monitor: &mut Monitor<K>, call: Call) -> Reply
 }
 
 impl Call {
-    // Puts the call after those that wait. Where there is no memory for that, it is let go.
+    // Puts the call after those that wait. Where that wants memory and there is none, it is let go.
     pub fn queue(self, calls: &mut VecDeque<Call>) -> Result<(), AllocError>
         ensures ok { OnOk result (calls.new.items ≡ calls.old.items ++ self ∷ []) }
         ensures err { OnErr result (calls.new.items ≡ calls.old.items) }
+        ensures room { deque_len calls.old < deque_capacity calls.old → IsOk result }
     {
         calls.push_back(self).map_err(|back| {
             back.value.abandon();
@@ -82,26 +77,31 @@ pub fn abandon_all(calls: &mut VecDeque<Call>)
     }
 }
 
-// Starts a monitor over the keeper, whatever that held before, and makes the calls in order. Where there is no memory for
-// the answers no call is made: slips are abandoned, and the keeper comes back.
+// Starts a monitor over the keeper, whatever that held before, makes the calls in order, and lists the replies in place of
+// what was listed. The caller lends the room for them: with less room than calls no call is made, and slips are abandoned.
 pub fn answer_all<K: Keeper>(
-    heap: Global,
     keeper: K,
     mut calls: VecDeque<Call>,
-) -> Result<Session<K>, K>
-    ensures promise { IfOk result (λ s. Promise [] calls.items s.replies.items) }
-    ensures stands { IfOk result (λ s. Stands (record_after [] calls.items s.replies.items) s.monitor) }
-    ensures examples { IfOk result (λ s. AllByRecursion (AnsweredAs calls.items s.replies.items) examples) }
+    replies: &mut Vec<Reply>,
+) -> Result<Monitor<K>, K>
+    ensures promise { OnOk result (Promise [] calls.items replies.new.items) }
+    ensures stands { IfOk result (λ monitor. Stands (record_after [] calls.items replies.new.items) monitor) }
+    ensures examples { OnOk result (AllByRecursion (AnsweredAs calls.items replies.new.items) examples) }
+    ensures room { IsOk result ↔ (length calls.items ≤ vec_capacity replies.old) }
+    ensures capacity { vec_capacity replies.new ≡ vec_capacity replies.old }
+    ensures keeper { IfErr result (λ back. back ≡ keeper) }
+    ensures unchanged { OnErr result (replies.new ≡ replies.old) }
 {
-    let Ok(mut replies) = Vec::with_capacity(heap, calls.len()) else {
+    if replies.capacity() < calls.len() {
         abandon_all(&mut calls);
         calls.destroy_empty();
         return Err(keeper);
-    };
+    }
+    replies.clear();
     let mut monitor = Monitor::start(keeper);
     while let Some(call) = calls.pop_front() {
         replies.push_reserved(answer(&mut monitor, call));
     }
     calls.destroy_empty();
-    Ok(Session { monitor, replies })
+    Ok(monitor)
 }

@@ -7,12 +7,12 @@ mod calls;
 mod steps;
 mod words;
 
-use anyhow::anyhow;
+use anyhow::ensure;
 use calls::listed;
 use clocks::Clocks;
 use monitor::{Reply, answer_all};
 use std::slice;
-use steps::{PARTS, Part};
+use steps::{PARTS, Part, STEPS};
 use words::Answer;
 
 // Tells the calls of a part with the next answers.
@@ -25,13 +25,16 @@ fn tell(rt: &HostRuntime, part: &Part, replies: &mut slice::Iter<Reply>) -> anyh
 }
 
 fn main(rt: HostRuntime) -> anyhow::Result<()> {
+    // Room for the replies comes first: once calls are listed, want of memory would have to let them go.
+    let mut replies = Vec::with_capacity(rt.alloc(), STEPS)?;
     let calls = listed(rt.alloc(), &PARTS)?;
-    let Ok(session) = answer_all(rt.alloc(), Clocks::new(), calls) else {
-        return Err(anyhow!("no memory"));
-    };
-    let mut replies = session.replies.iter();
+    ensure!(
+        answer_all(Clocks::new(), calls, &mut replies).is_ok(),
+        "less room than calls"
+    );
+    let mut told = replies.iter();
     for part in &PARTS {
-        tell(&rt, part, &mut replies)?;
+        tell(&rt, part, &mut told)?;
     }
     Ok(())
 }
