@@ -18,7 +18,6 @@ extern "C" {
 /* The negative answers. */
 #define WICKERHERON_NO_ROOM (-19)      /* the certificate has more than out_len bytes */
 #define WICKERHERON_NO_SUCH_KIND (-22) /* the kind is none of the four; tested first */
-#define WICKERHERON_NO_MEMORY (-100)    /* there was no memory for the run or its text */
 
 /* The most bytes of a trace file that is not refused for its length, and enough for any certificate. */
 #define WICKERHERON_MOST_TRACE 65536
@@ -31,7 +30,7 @@ extern "C" {
  *
  * Answers the certificate's length in bytes, or one of the negative answers above. The text isn't
  * ended by a zero byte. The bytes behind the text keep what they held; with a negative answer all of
- * the buffer does.
+ * the buffer does. The call takes no memory but the stack's.
  *
  * Neither pointer may be NULL, not for a length of 0 either. The trace must not change during the
  * call, and the two ranges must not overlap. The call keeps neither pointer, and nothing else, when

@@ -67,16 +67,20 @@ agree bytes t t' c d =
     c.is ∙ ap (λ o. text (length o.recorded_as) o.findings o.end) (one_outcome bytes outside [] [] c.events d.events c.outcome d.outcome c.runs d.runs) ∙ sym d.is
 
 -- the text that is made of what a run leaves
-pub certifies : {K : Type 0} {its : Ghosts K} (bytes : List ℕ) (q : Place) (m : Monitor K its) (fs : List Finding) (end : Option Fault) (n : ℕ) → Certified bytes outside [] q m fs end → ((rec : List Event) → Stands rec m → n ≡ length rec) → (r : Result (String Global) AllocError) → IfOk r (λ t. string_bytes t ≡ text n fs end) → IfOk r (λ t. Certifies bytes (string_bytes t))
-certifies bytes q m fs end n run counts (Ok t) is =
+pub certifies : {K : Type 0} {its : Ghosts K} (bytes : List ℕ) (q : Place) (m : Monitor K its) (fs : List Finding) (end : Option Fault) (n : ℕ) → Certified bytes outside [] q m fs end → ((rec : List Event) → Stands rec m → n ≡ length rec) → (t : List ℕ) → t ≡ text n fs end → Certifies bytes t
+certifies bytes q m fs end n run counts t is =
     let o : Outcome = record { recorded_as = run.came.rec'; findings = fs; end = end; place = q } in
-    let told : string_bytes t ≡ text (length o.recorded_as) fs end = is ∙ ap (λ k. text k fs end) (counts run.came.rec' run.came.stands) in
+    let told : t ≡ text (length o.recorded_as) fs end = is ∙ ap (λ k. text k fs end) (counts run.came.rec' run.came.stands) in
     record {
       events = run.came.events;
       outcome = o;
       runs = run.came.runs;
       says = run.says;
       is = told;
-      tells = tells bytes (string_bytes t) run.came.events o run.says told;
+      tells = tells bytes t run.came.events o run.says told;
     }
-certifies bytes q m fs end n run counts (Err e) is = tt
+
+-- the same of a string, if there was memory for it
+pub certifies_string : {K : Type 0} {its : Ghosts K} (bytes : List ℕ) (q : Place) (m : Monitor K its) (fs : List Finding) (end : Option Fault) (n : ℕ) → Certified bytes outside [] q m fs end → ((rec : List Event) → Stands rec m → n ≡ length rec) → (r : Result (String Global) AllocError) → IfOk r (λ t. string_bytes t ≡ text n fs end) → IfOk r (λ t. Certifies bytes (string_bytes t))
+certifies_string bytes q m fs end n run counts (Ok t) is = certifies bytes q m fs end n run counts (string_bytes t) is
+certifies_string bytes q m fs end n run counts (Err e) is = tt

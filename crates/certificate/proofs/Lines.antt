@@ -1,6 +1,6 @@
 -- The lines of a certificate, one after another. Assumes nothing.
-use Rattle.std.proofs.Common.{◌≡◌, ℕ, ◌+◌, ◌<◌, ◌≤◌, List, [], ◌∷◌, ◌++◌, length, get_or, take, Option, None, sym, refl, ap, ◌∙◌, arith}
-use Rattle.std.proofs.lemmas.List.{append-nil, append_assoc, take_more, take_all}
+use Rattle.std.proofs.Common.{◌≡◌, ℕ, ◌+◌, ◌<◌, ◌≤◌, List, [], ◌∷◌, ◌++◌, length, get_or, take, drop, Option, None, sym, refl, ap, ◌∙◌, arith}
+use Rattle.std.proofs.lemmas.List.{append-nil, append_assoc, length-append, take-append-drop, take_more, take_all}
 use Rattle.std.proofs.Output.{writes_in_calls_nil, has_written_append, has_written_of_eq}
 use Rattle.std.specs.declared.fmt.Formatter.{Formatter}
 use Rattle.std.specs.Prelude.{codes}
@@ -18,7 +18,7 @@ findings_one : (f : Finding) → findings_text (f ∷ []) ≡ finding_text f ++ 
 unfolding findings_text
 findings_one f = append-nil (finding_text f ++ (10 ∷ []))
 
-findings_more : (fs : List Finding) (i : ℕ) (d : Finding) → i < length fs → findings_text (take i fs) ++ (finding_text (get_or fs i d) ++ (10 ∷ [])) ≡ findings_text (take (i + 1) fs)
+pub findings_more : (fs : List Finding) (i : ℕ) (d : Finding) → i < length fs → findings_text (take i fs) ++ (finding_text (get_or fs i d) ++ (10 ∷ [])) ≡ findings_text (take (i + 1) fs)
 findings_more fs i d h =
     ap (λ l. findings_text (take i fs) ++ l) (sym (findings_one (get_or fs i d))) ∙ sym (findings_append (take i fs) (get_or fs i d ∷ [])) ∙ ap findings_text (sym (take_more fs i d h))
 
@@ -30,6 +30,34 @@ last_clean (f ∷ fs) end few none = absurd (omega arith)
 pub last_not_clean : (fs : List Finding) (end : Option Fault) → 0 < length fs → end ≡ None → codes "not clean" ++ (10 ∷ []) ≡ last_text fs end
 last_not_clean [] end some none = absurd (omega arith)
 last_not_clean (f ∷ fs) end some none = sym (ap (last_text (f ∷ fs)) none)
+
+-- the first line and those of the first i findings
+unfoldable pub upto : ℕ → List Finding → ℕ → List ℕ
+upto a fs i = first_text a (length fs) ++ findings_text (take i fs)
+
+pub upto_none : (a : ℕ) (fs : List Finding) → first_text a (length fs) ≡ upto a fs 0
+unfolding upto findings_text
+upto_none a fs = sym (append-nil (first_text a (length fs)))
+
+pub upto_more : (a : ℕ) (fs : List Finding) (i : ℕ) (d : Finding) → i < length fs → upto a fs i ++ (finding_text (get_or fs i d) ++ (10 ∷ [])) ≡ upto a fs (i + 1)
+unfolding upto
+upto_more a fs i d h =
+    append_assoc (first_text a (length fs)) (findings_text (take i fs)) (finding_text (get_or fs i d) ++ (10 ∷ [])) ∙ ap (λ l. first_text a (length fs) ++ l) (findings_more fs i d h)
+
+pub upto_all : (a : ℕ) (fs : List Finding) (i : ℕ) (end : Option Fault) → length fs ≤ i → upto a fs i ++ last_text fs end ≡ text a fs end
+unfolding upto text
+upto_all a fs i end all = ap (λ l. (first_text a (length fs) ++ findings_text l) ++ last_text fs end) (take_all i fs all)
+
+-- no part of the text is longer than the text
+pub upto_fits : (a : ℕ) (fs : List Finding) (i : ℕ) (end : Option Fault) → length (upto a fs i) ≤ length (text a fs end)
+unfolding upto text
+upto_fits a fs i end =
+    let parts = ap findings_text (sym (take-append-drop i fs)) ∙ findings_append (take i fs) (drop i fs) in
+    let long = ap length parts ∙ length-append (findings_text (take i fs)) (findings_text (drop i fs)) in
+    let some = length-append (first_text a (length fs)) (findings_text (take i fs)) in
+    let all = length-append (first_text a (length fs)) (findings_text fs) in
+    let whole = length-append (first_text a (length fs) ++ findings_text fs) (last_text fs end) in
+    omega arith
 
 module _ {W : Type 0} (took : W → List ℕ → W → Type 0) (f : Formatter W) where
   -- no line yet

@@ -10,9 +10,8 @@
 --   ReadOut bytes p es     the file opens and is read to its end, and es are its events from the place p on
 --   Sentence bytes p rec es o   what is said of the run of the events es from the place p and the record on, with no findings at first,
 --                          which came to the outcome o
-use Rattle.std.specs.Prelude.{◌≡◌, ℕ, ◌+◌, ◌≤◌, ◌⊎◌, List, [], ◌∷◌, ◌++◌, map, reverse, length, Some, None, Ok, Err, Option, Result}
+use Rattle.std.specs.Prelude.{◌≡◌, ℕ, ◌+◌, ◌≤◌, ◌⊎◌, List, [], ◌∷◌, ◌++◌, map, reverse, length, Some, None, Ok, Option}
 use Rattle.std.specs.List.{AllByRecursion}
-use Rattle.std.specs.declared.alloc.AllocFailed.{AllocFailed}
 use Rattle.events.specs.declared.Event.{Event}
 use Rattle.keepers.specs.declared.keeper.Keeper.{Ghosts}
 use Rattle.order.specs.Judgement.{declined, refused}
@@ -31,7 +30,6 @@ use Rattle.certificate.specs.declared.fault.Cause.{Cause}
 use Rattle.certificate.specs.declared.fault.Cause.TheVariants.{Trace, Monitor as ByMonitor, Run as ByRun}
 use Rattle.certificate.specs.declared.fault.Fault.{Fault}
 use Rattle.certificate.specs.declared.finding.Finding.{Finding}
-use Rattle.certificate.specs.declared.run.Ran.{Ran}
 use Rattle.certificate.specs.Running.{recorded_all, Outcome, CameTo}
 
 pub record NamesRace (rec : List Event) (n : ℕ) (es : List Event) (f : Finding) : Type 0 where
@@ -80,7 +78,6 @@ module _ {K : Type 0} {its : Ghosts K} where
     pub came : CameTo bytes p rec [] q m fs end
     pub says : Sentence bytes p rec came.events (record { recorded_as = came.rec'; findings = fs; end = end; place = q })
 
-  -- the run of a file by a monitor; without memory nothing happens
-  abbrev pub RanWhole : List ℕ → Place → Monitor K its → Place → Result (Ran K its) (AllocFailed (Monitor K its)) → Type 0
-  RanWhole bytes p m q (Ok r) = (rec : List Event) → Stands rec m → Certified bytes p rec q r.monitor r.findings r.end
-  RanWhole bytes p m q (Err e) = (q ≡ p) × (e.value ≡ m)
+  -- the run of a file by the monitor m, which leaves the monitor m', the findings and the fault that ended it
+  abbrev pub RanWhole : List ℕ → Place → Monitor K its → Place → Monitor K its → List Finding → Option Fault → Type 0
+  RanWhole bytes p m q m' fs end = (rec : List Event) → Stands rec m → Certified bytes p rec q m' fs end

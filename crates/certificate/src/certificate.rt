@@ -1,9 +1,14 @@
 // The certificate of a file, over any keeper.
 ghost use Rattle.std.specs.Prelude.{IfOk, string_bytes};
 ghost use Rattle.certificate.specs.Certified.{Certifies, Agree};
+ghost use Rattle.certificate.specs.Host.{CertifiedInto};
 
-use crate::running::run_file;
+use crate::call::CallFault;
+use crate::finding::Findings;
+use crate::run::Run;
+use crate::running::{run_file, run_out};
 use crate::text::{Certificate, text_of};
+use crate::writing::write_text;
 use keepers::Keeper;
 use monitor::Monitor;
 use std::alloc::{AllocError, Global};
@@ -18,13 +23,35 @@ pub fn certificate_of<K: Keeper + Drop>(
     ensures { IfOk result (λ t. Certifies bytes.now (string_bytes t)) }
 {
     let mut reader = Reader::new(bytes);
-    let ran = run_file(heap, &mut reader, Monitor::start(keeper))?;
+    let ran = run_file(&mut reader, Monitor::start(keeper));
     let certificate = Certificate {
         accepted: ran.monitor.accepted(),
         findings: ran.findings.as_slice(),
         end: ran.end,
     };
     text_of(heap, &certificate)
+}
+
+// The same at the front of the caller's buffer, if it fits, with no heap.
+pub(crate) fn certificate_into<K: Keeper + Drop>(
+    bytes: &[u8],
+    keeper: K,
+    out: &mut [u8],
+) -> Result<usize, CallFault>
+    ensures { CertifiedInto bytes.now out.old out.new result }
+{
+    let mut reader = Reader::new(bytes);
+    let mut run = Run {
+        monitor: Monitor::start(keeper),
+        findings: Findings::new(),
+    };
+    let end = run_out(&mut reader, &mut run);
+    let certificate = Certificate {
+        accepted: run.monitor.accepted(),
+        findings: run.findings.as_slice(),
+        end,
+    };
+    write_text(&certificate, out)
 }
 
 // A file has one certificate, whatever keeper it is made with.

@@ -9,19 +9,23 @@ pub struct Finding {
     pub witness: u32,
 }
 
-// The findings so far, with room for a thousand.
+// How many findings a run lists.
+pub(crate) const MOST: usize = 1_000;
+
+// The findings so far are the first `count` of the list. There is room for all, so that a run wants no memory.
 #[derive(Drop)]
 pub struct Findings {
-    pub(crate) list: Vec<Finding>,
+    pub(crate) list: [Finding; MOST],
+    pub(crate) count: usize,
 }
 
 impl Model for Findings {
-    ghost use Rattle.std.specs.Prelude.{◌≤◌, List, vec_capacity};
+    ghost use Rattle.std.specs.Prelude.{◌≤◌, List, take};
     ghost use Rattle.certificate.specs.declared.finding.Finding.{Finding as AFinding};
 
     ghost Value = { List AFinding };
 
-    ghost view = { λ f. f.list.items };
+    ghost view = { λ f. take f.count f.list };
 
-    ghost invariant = { λ f. 1000 ≤ vec_capacity f.list };
+    ghost invariant = { λ f. f.count ≤ 1000 };
 }

@@ -6,10 +6,12 @@ mod certificate;
 mod fault;
 mod finding;
 mod host;
+mod line;
 mod listing;
 mod run;
 mod running;
 mod text;
+mod writing;
 
 pub use call::{CallFault, KeeperKind};
 pub use certificate::{certificate_of, certificates_agree};

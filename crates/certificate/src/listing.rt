@@ -1,38 +1,44 @@
 // Listing findings.
-ghost use Rattle.std.specs.Prelude.{◌≡◌, [], IfOk};
+ghost use Rattle.std.specs.Prelude.{◌≡◌, ◌≤◌, [], length};
 ghost use Rattle.certificate.specs.Running.{Added};
 
 use crate::fault::RunFault;
-use crate::finding::{Finding, Findings};
-use std::alloc::{AllocError, Global};
-
-// How many findings a run lists.
-const MOST: usize = 1_000;
+use crate::finding::{Finding, Findings, MOST};
 
 impl Findings {
-    // No findings yet; the room is taken at once, so that a run never wants memory.
-    pub fn new(heap: Global) -> Result<Findings, AllocError>
-        ensures { IfOk result (λ findings. findings ≡ []) }
+    // No findings yet.
+    #[inline]
+    pub fn new() -> Findings
+        ensures { result ≡ [] }
     {
-        let list = Vec::with_capacity(heap, MOST)?;
-        Ok(Findings { list })
+        let none = Finding {
+            event: 0,
+            place: 0,
+            witness: 0,
+        };
+        Findings {
+            list: [none; MOST],
+            count: 0,
+        }
     }
 
     // Lists one more, unless a thousand are listed.
     pub fn add(&mut self, finding: Finding) -> Result<(), RunFault>
         ensures { Added self.old finding result self.new }
     {
-        if self.list.len() >= MOST {
+        if self.count >= MOST {
             return Err(RunFault::TooManyFindings);
         }
-        self.list.push_reserved(finding);
+        self.list[self.count] = finding;
+        self.count += 1;
         Ok(())
     }
 
     // All of them, in the order in which they were listed.
     pub fn as_slice(&self) -> &[Finding]
-        ensures { result.now ≡ self.now }
+        ensures items { result.now ≡ self.now }
+        ensures few { length result.now ≤ 1000 }
     {
-        self.list.as_slice()
+        &self.list[..self.count]
     }
 }

@@ -13,7 +13,6 @@ use crate::run::{Ran, Run};
 use events::Event;
 use keepers::Keeper;
 use monitor::{Monitor, Verdict};
-use std::alloc::{AllocFailed, Global};
 use trace::{Reader, Site, Taker};
 
 impl<K: Keeper> Run<K> {
@@ -55,25 +54,30 @@ fn hand_all<K: Keeper>(reader: &mut Reader<'_>, run: &mut Run<K>) -> Result<(), 
     Ok(())
 }
 
-// Runs what is left of a file by the monitor, whatever that has accepted before. Where there is no memory for the findings
-// nothing is read or offered, and the monitor comes back.
-pub fn run_file<K: Keeper>(
-    heap: Global,
-    reader: &mut Reader<'_>,
-    monitor: Monitor<K>,
-) -> Result<Ran<K>, AllocFailed<Monitor<K>>>
-    ensures run { RanWhole reader.old.bytes.now reader.old.at monitor reader.new.at result }
+// Runs what is left of a file, with no findings at first, and tells the fault that ended the run, if one did. The run is lent,
+// since its room for findings is too large to be moved about.
+pub(crate) fn run_out<K: Keeper>(reader: &mut Reader<'_>, run: &mut Run<K>) -> Option<Fault>
+    requires { run.old.findings ≡ [] }
+    ensures run { RanWhole reader.old.bytes.now reader.old.at run.old.monitor reader.new.at run.new.monitor run.new.findings result }
     ensures bytes { reader.new.bytes.now ≡ reader.old.bytes.now }
 {
-    let Ok(findings) = Findings::new(heap) else {
-        return Err(AllocFailed { value: monitor });
+    hand_all(reader, run).err()
+}
+
+// Runs what is left of a file by the monitor, whatever that has accepted before.
+pub fn run_file<K: Keeper>(reader: &mut Reader<'_>, monitor: Monitor<K>) -> Ran<K>
+    ensures run { RanWhole reader.old.bytes.now reader.old.at monitor reader.new.at result.monitor result.findings result.end }
+    ensures bytes { reader.new.bytes.now ≡ reader.old.bytes.now }
+{
+    let mut run = Run {
+        monitor,
+        findings: Findings::new(),
     };
-    let mut run = Run { monitor, findings };
-    let end = hand_all(reader, &mut run).err();
+    let end = run_out(reader, &mut run);
     let Run { monitor, findings } = run;
-    Ok(Ran {
+    Ran {
         monitor,
         findings,
         end,
-    })
+    }
 }

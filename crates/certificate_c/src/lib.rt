@@ -3,12 +3,10 @@
 
 ghost use Rattle.certificate.specs.Host.{HostAnswer};
 
-use std::alloc::Global;
-
 // The certificate of the trace file, written to the front of the buffer; the answers are those of the library's call.
 #[unsafe(no_mangle)]
-pub extern "C" fn wickerheron_certify(heap: Global, trace: &[u8], kind: u32, out: &mut [u8]) -> i64
+pub extern "C" fn wickerheron_certify(trace: &[u8], kind: u32, out: &mut [u8]) -> i64
     ensures { HostAnswer trace.now kind out.old out.new result }
 {
-    certificate::wickerheron_certify(heap, trace, kind, out)
+    certificate::wickerheron_certify(trace, kind, out)
 }

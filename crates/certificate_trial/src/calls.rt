@@ -30,7 +30,7 @@ pub(crate) fn call(
     room: usize,
 ) -> Result<Answer, AllocError> {
     let mut out = vec![in heap; BEFORE; room]?;
-    let number = wickerheron_certify(heap, file, kind, out.as_mut_slice());
+    let number = wickerheron_certify(file, kind, out.as_mut_slice());
     Ok(Answer { number, out })
 }
 

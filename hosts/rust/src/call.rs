@@ -2,7 +2,6 @@
 
 pub const NO_ROOM: i64 = -19;
 pub const NO_SUCH_KIND: i64 = -22;
-pub const NO_MEMORY: i64 = -100;
 
 unsafe extern "C" {
     fn wickerheron_certify(trace: *const u8, trace_len: usize, kind: u32, out: *mut u8, out_len: usize) -> i64;

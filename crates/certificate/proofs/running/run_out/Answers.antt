@@ -2,17 +2,16 @@ use Rattle.std.proofs.Common.{sym}
 use Rattle.trace.proofs.Answered.{begun_stands}
 use Rattle.certificate.specs.Running.{RunOn}
 use Rattle.certificate.proofs.Sentences.{sentence}
-use Rattle.certificate.proofs.running.run_file.Goals as goal
+use Rattle.certificate.proofs.running.run_out.Goals as goal
 
 pub returns : goal.returns
 unfolding RunOn
 returns g c =
     let told = c.hand_all.ensures in
     let from = c.args.reader.now in
-    let none = c.in-Ok.ensures in
     record {
       run = λ rec stands.
-          let came = rw (none, sym c.err-end.ensures.value) at (told.run rec stands) in
+          let came = rw (c.requires, sym c.err.ensures.value) at (told.run rec stands) in
           record { came = came; says = sentence from.bytes.now from.at rec came.events _ (begun_stands from.bytes.now from.at from.stands) stands.lawful stands.free came.runs };
       bytes = told.bytes;
     }
