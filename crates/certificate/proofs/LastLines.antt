@@ -4,7 +4,6 @@ use Rattle.std.proofs.ByRecursion.{All-append}
 use Rattle.std.proofs.lemmas.Bool.{cond_both, cond-false, eqb-false, ne_eqb, false≢true}
 use Rattle.std.proofs.lemmas.List.{append_assoc, append-nil, same_from_push}
 use Rattle.std.specs.Fmt.{digit_glyph, digits_onto, digits}
-use Rattle.std.specs.List.{AllByRecursion}
 use Rattle.events.specs.declared.Event.{Event}
 use Rattle.monitor.specs.Promise.{Sound}
 use Rattle.trace.specs.declared.fault.Refusal.{Refusal}
@@ -16,7 +15,7 @@ use Rattle.certificate.specs.declared.fault.Fault.{Fault}
 use Rattle.certificate.specs.declared.finding.Finding.{Finding}
 use Rattle.certificate.specs.Numbers.{number_of}
 use Rattle.certificate.specs.Running.{Outcome}
-use Rattle.certificate.specs.Sentence.{NamesRace, ReadOut, Sentence}
+use Rattle.certificate.specs.Sentence.{ListsRaces, ReadOut, Sentence}
 use Rattle.certificate.specs.Texts.{finding_text, fault_text, findings_text, first_text, last_text, text}
 use Rattle.certificate.specs.LastLine.{OneLine, WholeLines, LastLine}
 use Rattle.certificate.specs.Certified.{CleanFile, RacyFile, RefusedFile, Ends, Tells}
@@ -183,7 +182,7 @@ module _ (bytes t : List ℕ) (events : List Event) (o : Outcome) (says : Senten
         counts = file.0;
         contains = file.1;
         some = end.1;
-        races = subst (λ n. AllByRecursion (NamesRace [] n events) o.findings) (entered_none bytes (opening bytes)) says.races;
+        races = subst (λ n. ListsRaces [] n events o.findings) (entered_none bytes (opening bytes)) says.races;
       }
 
   tells_refused : (l : List ℕ) → LastLine t (codes "refused " ++ l) → RefusedFile bytes o (codes "refused " ++ l)

@@ -1,5 +1,6 @@
 pub mod Ahead
 pub mod Onward
+pub mod Listings
 pub mod Sentences
 pub mod Lines
 pub mod LastLines

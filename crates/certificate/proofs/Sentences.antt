@@ -28,6 +28,7 @@ use Rattle.certificate.specs.declared.finding.Finding.{Finding}
 use Rattle.certificate.specs.Running.{recorded_all, listed, Passes, Halts, Outcome, StopsAs, Runs}
 use Rattle.certificate.specs.Sentence.{NamesRace, EndsBy, EndsRightly, ReadOut, Sentence}
 use Rattle.certificate.proofs.Ahead.{counted}
+use Rattle.certificate.proofs.Listings.{grown, lists_races, in_order}
 
 -- a finding more is rightly listed
 listed_right : (Q : Finding → Type 0) (fs : List Finding) (n : ℕ) (rec : List Event) (e : Event) (a : Answer) → AllByRecursion Q fs → Right rec e a → ((p w : ℕ) → Right rec e (declined p w) → Q (record { event = n; place = p; witness = w })) → AllByRecursion Q (listed fs n a)
@@ -122,17 +123,10 @@ read_out bytes p rec fs (e ∷ es) o end (reads, passes, runs) =
     }
 
 -- findings are never taken back
-listed_grows : (fs : List Finding) (n : ℕ) (a : Answer) → length fs ≤ length (listed fs n a)
-listed_grows fs n (accepted s) = omega arith
-listed_grows fs n (refused k) = omega arith
-listed_grows fs n (declined p w) = let long = length-append fs (record { event = n; place = p; witness = w } ∷ []) in omega arith
-
 grows : (bytes : List ℕ) (p : Place) (rec : List Event) (fs : List Finding) (es : List Event) (o : Outcome) → Runs bytes p rec fs es o → length fs ≤ length o.findings
-unfolding Runs
-grows bytes p rec fs [] o stops = let same = ap length stops.findings_stay in omega arith
-grows bytes p rec fs (e ∷ es) o (reads, passes, runs) =
-    let rest = grows bytes (after bytes p) (recorded rec e (judge rec e)) (listed fs ((inside bytes p).events + 1) (judge rec e)) es o runs in
-    let more = listed_grows fs ((inside bytes p).events + 1) (judge rec e) in
+grows bytes p rec fs es o runs =
+    let grew = grown bytes p rec fs es o runs in
+    let size = ap length grew.is ∙ length-append fs grew.new in
     omega arith
 
 -- without findings each event that passed was accepted
@@ -157,7 +151,7 @@ sentence bytes p rec es o begun lawful free runs =
       record_is = all.record_is;
       sound = sound_from o.recorded_as all.lawful all.free;
       clean = λ end none. all.record_is ∙ all_accepted bytes p rec [] es o none runs;
-      races = all.races;
+      races = record { real = all.races; complete = lists_races bytes p rec es o lawful free runs; in_order = in_order bytes p rec es o runs };
       counted = all_counted bytes p rec [] es o runs;
       whole = λ end. read_out bytes p rec [] es o end runs;
       first = all.first;

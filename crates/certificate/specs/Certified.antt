@@ -1,22 +1,21 @@
 -- The certificate of a file. Assumes nothing.
 --   CleanFile bytes events o    the file opens and contains just these events; all are accepted, in the file's order, and their
 --                               record is sound
---   RacyFile bytes events o     the file opens and contains just these events; there are findings, and each names a real race
---                               among them
+--   RacyFile bytes events o     the file opens and contains just these events; there are findings, and these are the races
+--                               among them, each once and in the file's order
 --   RefusedFile bytes o l       a fault ended the run; the line l tells its number and site, and it is the first that applies
 --   Ends l                      the line l is `clean` or `not clean`, or begins with `refused `
 --   Tells bytes t events o      the text t has such a last line, and by its bytes the file is clean, racy or refused
 --   Certifies bytes t           t is the text of the run of the file by a monitor with an empty record, and what it says is so
 --   Agree                       a file has one certificate, whatever keeper the monitor stands over
 use Rattle.std.specs.Prelude.{◌≡◌, ℕ, ◌<◌, ◌⊎◌, List, [], ◌++◌, reverse, length, Some, codes}
-use Rattle.std.specs.List.{AllByRecursion}
 use Rattle.events.specs.declared.Event.{Event}
 use Rattle.trace.specs.Reading.{outside}
 use Rattle.trace.specs.Whole.{Contains}
 use Rattle.monitor.specs.Promise.{Sound}
 use Rattle.certificate.specs.declared.fault.Fault.{Fault}
 use Rattle.certificate.specs.Running.{Outcome, Runs}
-use Rattle.certificate.specs.Sentence.{NamesRace, EndsRightly, Sentence}
+use Rattle.certificate.specs.Sentence.{ListsRaces, EndsRightly, Sentence}
 use Rattle.certificate.specs.Texts.{fault_text, text}
 use Rattle.certificate.specs.LastLine.{LastLine}
 
@@ -30,7 +29,7 @@ pub record RacyFile (bytes : List ℕ) (events : List Event) (o : Outcome) : Typ
   pub counts : List ℕ
   pub contains : Contains bytes counts events
   pub some : 0 < length o.findings
-  pub races : AllByRecursion (NamesRace [] 0 events) o.findings
+  pub races : ListsRaces [] 0 events o.findings
 
 pub record RefusedFile (bytes : List ℕ) (o : Outcome) (l : List ℕ) : Type 0 where
   pub fault : Fault

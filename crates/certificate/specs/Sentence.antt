@@ -2,6 +2,9 @@
 --   NamesRace rec n es f   the finding f names one of the events es, offered after the record: the events before it were
 --                          offered too, and it was rightly declined, for a race at the finding's place with its witness;
 --                          n events of the file came before es
+--   Ascends n fs           the findings fs stand in the order of their events, all of them after event n
+--   ListsRaces rec n es fs   fs are the races of the events es, offered after the record: each is real, none is left out, and they
+--                          stand in the events' order
 --   EndsBy bytes o at c    what is said of a fault at the site `at` for the cause c: it is the refusal of the file by the first
 --                          rule that applies before its first event; or `at` is the site of the event at which the reader was
 --                          left, and that is refused by the first of the file's rules or of the judgement's that applies, or
@@ -10,7 +13,7 @@
 --   ReadOut bytes p es     the file opens and is read to its end, and es are its events from the place p on
 --   Sentence bytes p rec es o   what is said of the run of the events es from the place p and the record on, with no findings at first,
 --                          which came to the outcome o
-use Rattle.std.specs.Prelude.{◌≡◌, ℕ, ◌+◌, ◌≤◌, ◌⊎◌, List, [], ◌∷◌, ◌++◌, map, reverse, length, Some, None, Ok, Option}
+use Rattle.std.specs.Prelude.{◌≡◌, ℕ, ◌+◌, ◌<◌, ◌≤◌, ◌⊎◌, List, [], ◌∷◌, ◌++◌, map, reverse, length, Contains, Some, None, Ok, Option}
 use Rattle.std.specs.List.{AllByRecursion}
 use Rattle.events.specs.declared.Event.{Event}
 use Rattle.keepers.specs.declared.keeper.Keeper.{Ghosts}
@@ -40,6 +43,15 @@ pub record NamesRace (rec : List Event) (n : ℕ) (es : List Event) (f : Finding
   pub numbered : f.event ≡ n + length earlier + 1
   pub real : Right (recorded_all rec earlier) event (declined f.place f.witness)
 
+abbrev pub Ascends : ℕ → List Finding → Type 0
+Ascends n [] = Unit {0}
+Ascends n (f ∷ fs) = (n < f.event) × Ascends f.event fs
+
+pub record ListsRaces (rec : List Event) (n : ℕ) (es : List Event) (fs : List Finding) : Type 0 where
+  pub real : AllByRecursion (NamesRace rec n es) fs
+  pub complete : (f : Finding) → NamesRace rec n es f → Contains fs f
+  pub in_order : Ascends n fs
+
 abbrev pub EndsBy : List ℕ → Outcome → Site → Cause → Type 0
 EndsBy bytes o at (Trace k) =
     FirstRefusal bytes (record { fault = k; at = at }) ⊎ EventRefusal bytes o.place (record { fault = k; at = at })
@@ -64,8 +76,8 @@ pub record Sentence (bytes : List ℕ) (p : Place) (rec : List Event) (es : List
   pub sound : Sound o.recorded_as
   -- without a fault and without findings every event is accepted, in the file's order
   pub clean : o.end ≡ None → o.findings ≡ [] → o.recorded_as ≡ reverse es ++ rec
-  -- each finding names a real race
-  pub races : AllByRecursion (NamesRace rec (inside bytes p).events es) o.findings
+  -- the findings are the races, each of them once and in the file's order
+  pub races : ListsRaces rec (inside bytes p).events es o.findings
   -- the reader has counted the events that were read, and without a fault there is no other
   pub counted : o.place.events ≡ (inside bytes p).events + length es
   pub whole : o.end ≡ None → ReadOut bytes p es
