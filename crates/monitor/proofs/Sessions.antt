@@ -1,6 +1,8 @@
 -- A list of calls, answered one after another. Assumes nothing.
+use Rattle.std.specs.List.{AllByRecursion}
 use Rattle.std.proofs.Common.{◌≡◌, List, [], ◌∷◌, ◌++◌, map, sym, refl, ap, ◌∙◌, subst}
 use Rattle.std.proofs.lemmas.List.{append-nil, append_assoc}
+use Rattle.std.proofs.ByRecursion.{All-weaker}
 use Rattle.events.specs.declared.Event.{Event}
 use Rattle.keepers.specs.declared.keeper.Keeper.{Ghosts}
 use Rattle.order.specs.Conflicts.{RaceFree}
@@ -12,8 +14,6 @@ use Rattle.order.proofs.Judgement.{right_at}
 use Rattle.order.proofs.Rearrangements.{own_order, same_reads}
 use Rattle.order.proofs.Roster.{holder_runs}
 use Rattle.monitor.specs.declared.monitor.Monitor.{Monitor}
-use Rattle.std.proofs.ByRecursion.{All-weaker}
-use Rattle.std.specs.List.{AllByRecursion}
 use Rattle.monitor.specs.declared.session.Call.{Call}
 use Rattle.monitor.specs.declared.session.Call.TheVariants.{Offer}
 use Rattle.monitor.specs.declared.session.Reply.{Reply}

@@ -1,7 +1,7 @@
 -- A monitor stands for the empty record at first, judges by what it holds, and stands for what it accepts. Assumes nothing.
 use Rattle.std.proofs.Common.{◌≡◌, ℕ, ◌+◌, ◌*◌, ◌<◌, ◌≤◌, false, cond, ◌&&◌, ◌||◌, ltb, leb, List, [], ◌∷◌, length, Some, None, Ok, Err, Option, Result, sym, ap, ◌∙◌, subst, arith}
-use mathlib.Core.Path.{fun_ext}
 use Rattle.std.proofs.lemmas.Bool.{leb-false, lt-ltb, lt-leb, and_from, or_from, cond-true, cond-false}
+use mathlib.Core.Path.{fun_ext}
 use Rattle.events.specs.declared.Event.{Event}
 use Rattle.keepers.specs.declared.keeper.Keeper.{Ghosts}
 use Rattle.keepers.specs.Meaning.{cleared}
@@ -11,14 +11,15 @@ use Rattle.order.specs.Faults.{fault, faults, record_full}
 use Rattle.order.specs.Judgement.{accepted, refused, declined, Finding, judge, ruled}
 use Rattle.order.specs.Questions as questions
 use Rattle.order.specs.Questions.{cell_told}
-use Rattle.order.proofs.Questions.{told_by_cell}
 use Rattle.order.specs.Slots.{changed}
 use Rattle.order.specs.Verdicts.{NoFault}
 use Rattle.order.specs.Work.{calls, passes_of}
+use Rattle.order.proofs.Questions.{told_by_cell}
 use Rattle.order.proofs.Cells.{judge_by_cells, cell_start, cell_step, cell_verdict}
 use Rattle.order.proofs.Faults.{no_fault_iff}
 use Rattle.order.proofs.Judgement.{judge_refused, right_at, accepted_free, accepted_lawful, nothing_races}
 use Rattle.order.proofs.PassCounts.{passes_of_few, passes_by_few}
+use Rattle.order.proofs.Passes.{worked, nobody}
 use Rattle.roster.specs.declared.fault.RuleFault.{RuleFault}
 use Rattle.roster.specs.Follows.{Fresh, Noted}
 use Rattle.roster.specs.Numbers.{fault_number, numbered, refused as roster_refused}
@@ -34,7 +35,6 @@ use Rattle.monitor.specs.declared.monitor.Monitor.{Monitor}
 use Rattle.monitor.specs.declared.verdict.Access.{Access}
 use Rattle.monitor.specs.Answers.{slot_of, no_reader, asked}
 use Rattle.monitor.specs.Stands.{Stands}
-use Rattle.order.proofs.Passes.{worked, nobody}
 
 -- a monitor over a cleared keeper, with a new roster and no serials
 pub stands_none : {K : Type 0} {its : Ghosts K} (m : Monitor K its) → m.accepted ≡ 0 → Fresh m.roster → its.live m.slots.keeper → its.meaning m.slots.keeper ≡ cleared → ((p k : ℕ) → serial_at m.slots.serials p k ≡ 0) → Stands [] m

@@ -1,7 +1,7 @@
 -- The ten short runs are answered as the table says, by computing. Assumes nothing.
 use Rattle.std.proofs.Common.{refl}
-use Rattle.order.proofs.Computing.{judging}
 use Rattle.order.specs.Examples.{answers, examples, AsWorked}
+use Rattle.order.proofs.Computing.{judging}
 
 pub as_worked : AsWorked
 unfolding judging answers examples

@@ -5,11 +5,11 @@ use Rattle.events.specs.declared.Event.{Event}
 use Rattle.order.specs.Acts.{is, operand, does, commits}
 use Rattle.order.specs.Order.{by_lock, by_flag, by_fork, by_join, by_fork_join, by_commits, pair, linked}
 use Rattle.order.specs.Holders.{Holder, of_thread, of_lock, of_flag, of_place, gives, takes, gives_at}
+use Rattle.order.specs.Records.{holds_at}
 use Rattle.order.proofs.Searches.{some_below_found, some_below_from}
 use Rattle.order.proofs.Acts.{does_parts, does_from, commits_place}
 use Rattle.order.proofs.Records.{at_position}
 use Rattle.order.proofs.Chains.{link, linked_is}
-use Rattle.order.specs.Records.{holds_at}
 
 abbrev pub takes_at : List Event → ℕ → Holder → Bool
 takes_at rec i h = holds_at rec i (λ past e. takes past e h)

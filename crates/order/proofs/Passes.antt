@@ -2,8 +2,8 @@
 use Rattle.std.proofs.Common.{◌≡◌, ℕ, zero, suc, ◌+◌, ◌<◌, Bool, true, false, cond, ◌&&◌, ◌||◌, eqb, ◌⊎◌, List, [], ◌∷◌, ◌++◌, map, sym, refl, ap, ◌∙◌, inl, inr, arith}
 use Rattle.std.proofs.lemmas.Bool.{cases_eq, or_cases, or_left, or_right, and_parts, and_from, eq-eqb, eqb-true, false≢true}
 use Rattle.events.specs.Places.{those_below}
-use Rattle.order.specs.Slots.{Set, changed, taken, given}
 use Rattle.events.specs.declared.Event.{Event}
+use Rattle.order.specs.Slots.{Set, changed, taken, given}
 
 -- nobody, just t, and the set s after a pass from a to b: b joins a set that has a
 abbrev pub nobody : Set

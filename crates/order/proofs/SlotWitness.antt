@@ -6,6 +6,7 @@ use Rattle.order.specs.Acts.{writes_place, reads_place, touches}
 use Rattle.order.specs.Conflicts.{lives, writes_in, reads_in, RaceFree}
 use Rattle.order.specs.Judgement.{latest_write, latest_read, unordered, unordered_read, witness, found, race, Finding}
 use Rattle.order.specs.Slots.{since, slot_access}
+use Rattle.order.specs.Searches.{first_from, or_else}
 use Rattle.order.proofs.Options.{or_else_same}
 use Rattle.order.proofs.Searches.{first_from_same}
 use Rattle.order.proofs.Records.{holds_at_within, at_position}
@@ -13,7 +14,6 @@ use Rattle.order.proofs.Acts.{write_not_read}
 use Rattle.order.proofs.Chains.{chain_append, ordered_longer, ordered_decides}
 use Rattle.order.proofs.Accesses.{in_life_parts, read_in_touches, write_conflicts}
 use Rattle.order.proofs.Witnesses.{latest_write_iff, latest_read_iff, read_by_reads, unordered_none}
-use Rattle.order.specs.Searches.{first_from, or_else}
 
 -- what e races with at p, sought in p's write slot and, for a write, in its read slots; and the lowest place with such a witness
 unfoldable pub slot_read : List Event → Event → ℕ → Option ℕ

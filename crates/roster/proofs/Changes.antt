@@ -1,7 +1,7 @@
 -- The changes kind by kind are those of forks, joins, acquires and releases. Assumes nothing.
 use Rattle.std.proofs.Common.{◌≡◌, ℕ, Bool, true, false, cond, not, ◌&&◌, ◌||◌, eqb, ltb, Some, None, Option, refl, sym, ap, ◌∙◌}
-use mathlib.Core.Path.{fun_ext}
 use Rattle.std.proofs.lemmas.Bool.{cond-false}
+use mathlib.Core.Path.{fun_ext}
 use Rattle.events.specs.declared.Event.{Event}
 use Rattle.events.specs.declared.Action.{Action}
 use Rattle.events.specs.declared.Action.TheVariants.{Read, Write, Acquire, Release, ReadFlag, WriteFlag, Fork, Join, Allocate, Commit}

@@ -1,7 +1,7 @@
 -- A roster that is new and then notes each event that no number refuses says what the record does. Assumes nothing.
 use Rattle.std.proofs.Common.{◌≡◌, ℕ, Bool, true, false, cond, not, ◌&&◌, ◌||◌, eqb, ltb, List, [], ◌∷◌, length, Some, None, Option, Result, sym, refl, ap, ◌∙◌, subst, inl, inr}
-use mathlib.Core.Path.{fun_ext}
 use Rattle.std.proofs.lemmas.Bool.{and_cases, or_parts, not-false, both_ways, lt-ltb}
+use mathlib.Core.Path.{fun_ext}
 use Rattle.events.specs.declared.Event.{Event}
 use Rattle.order.specs.Acts.{is, operand, acquires, releases, forks, joins}
 use Rattle.order.specs.Faults.{forked_before, joins_amiss, faults, rule, fault}

@@ -7,16 +7,16 @@ use Rattle.events.specs.declared.Event.{Event}
 use Rattle.events.specs.declared.Action.{Action}
 use Rattle.events.specs.declared.Action.TheVariants.{Read, Write, Acquire, Release, ReadFlag, WriteFlag, Fork, Join, Allocate, Commit}
 use Rattle.events.specs.declared.PlaceSet.{PlaceSet}
-use lib.Bits.{bit_or}
 use Rattle.events.specs.Places.{member, those_below}
-use Rattle.order.proofs.Passes.{has, has_those_below, those_below_has}
-use Rattle.slots.proofs.Places.{member_or}
+use lib.Bits.{bit_or}
 use Rattle.order.specs.Acts.{by, allocates, writes_place, reads_place}
-use Rattle.order.proofs.Computing.{acts}
 use Rattle.order.specs.Slots.{begins, forgets, changed}
 use Rattle.order.specs.Work.{accesses}
-use Rattle.keepers.specs.Meaning.{is_slot}
+use Rattle.order.proofs.Passes.{has, has_those_below, those_below_has}
+use Rattle.order.proofs.Computing.{acts}
 use Rattle.slots.specs.Serials.{by_read, by_write, by_commit}
+use Rattle.slots.proofs.Places.{member_or}
+use Rattle.keepers.specs.Meaning.{is_slot}
 
 pub read_at : (q u n p k x : ℕ) → u < 8 → p < 64 → k < 9 → cond (is_slot (9 * q + (u + 1)) && eqb (9 * p + k) (9 * q + (u + 1))) n x ≡ by_read q u n p k x
 unfolding by_read

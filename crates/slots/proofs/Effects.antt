@@ -1,8 +1,8 @@
 -- What an event in bounds does to a keeper's sets and to its count of passes. Assumes nothing.
-use Rattle.std.proofs.Common.{◌≡◌, ℕ, zero, suc, ◌+◌, ◌*◌, ◌<◌, ◌≤◌, Bool, true, false, cond, eqb, List, [], ◌∷◌, ◌++◌, sym, refl, ap, ◌∙◌, arith}
-use mathlib.Core.Path.{fun_ext}
 use Rattle.std.specs.List.{AllByRecursion}
+use Rattle.std.proofs.Common.{◌≡◌, ℕ, zero, suc, ◌+◌, ◌*◌, ◌<◌, ◌≤◌, Bool, true, false, cond, eqb, List, [], ◌∷◌, ◌++◌, sym, refl, ap, ◌∙◌, arith}
 use Rattle.std.proofs.ByRecursion.{All-append}
+use mathlib.Core.Path.{fun_ext}
 use Rattle.events.specs.declared.Event.{Event}
 use Rattle.events.specs.declared.Action.{Action}
 use Rattle.events.specs.declared.Action.TheVariants.{Read, Write, Acquire, Release, ReadFlag, WriteFlag, Fork, Join, Allocate, Commit}
@@ -13,10 +13,10 @@ use Rattle.order.specs.Slots.{Set, taken, given}
 use Rattle.order.specs.Work.{Call, begin, forget, pass, forget_from, written, looked_at, committed, accesses, calls, passes_of}
 use Rattle.order.proofs.Work.{calls_work, Sets, done, all_done}
 use Rattle.order.proofs.PassCounts.{calls_passes, passes_made}
+use Rattle.order.proofs.Passes.{worked, nobody, only}
 use Rattle.slots.specs.Bounds.{InBounds}
 use Rattle.slots.specs.Made.{called, made, passes_in, passes_out, set_at}
 use Rattle.slots.proofs.Ranges.{Ranged, in_range, thread_in_range, taken_holders, given_holders}
-use Rattle.order.proofs.Passes.{worked, nobody, only}
 use Rattle.slots.proofs.Places.{AllHolders}
 
 -- the call's numbers are in range

@@ -1,9 +1,14 @@
 -- The search for a race, step by step. Assumes nothing.
-use Rattle.std.proofs.Common.{◌≡◌, ℕ, zero, suc, ◌+◌, ◌*◌, ◌<◌, Bool, true, false, cond, not, ◌&&◌, ◌||◌, eqb, List, [], ◌∷◌, ◌++◌, Some, None, Option, sym, refl, ap, ap₂, ◌∙◌, inl, inr, add-zero, zero-add, arith}
 use Rattle.std.specs.Bool.{then_some}
 use Rattle.std.specs.List.{range_with_len}
+use Rattle.std.proofs.Common.{◌≡◌, ℕ, zero, suc, ◌+◌, ◌*◌, ◌<◌, Bool, true, false, cond, not, ◌&&◌, ◌||◌, eqb, List, [], ◌∷◌, ◌++◌, Some, None, Option, sym, refl, ap, ap₂, ◌∙◌, inl, inr, add-zero, zero-add, arith}
 use Rattle.std.proofs.lemmas.Option.{none-some}
+use Rattle.std.proofs.lemmas.Bool.{cases_eq, cond-true, cond-false, or_left, or_right, or_from, ne_eqb, false≢true}
 use Rattle.events.specs.Places.{member, those_below}
+use Rattle.events.specs.declared.Event.{Event}
+use Rattle.events.specs.declared.Action.{Action}
+use Rattle.events.specs.declared.Action.TheVariants.{Read, Write, Acquire, Release, ReadFlag, WriteFlag, Fork, Join, Allocate, Commit}
+use Rattle.events.specs.declared.PlaceSet.{PlaceSet}
 use Rattle.keepers.specs.Meaning.{Meaning}
 use Rattle.slots.specs.Bounds.{InBounds}
 use Rattle.slots.specs.Made.{set_at, held_at}
@@ -11,17 +16,12 @@ use Rattle.slots.specs.Serials.{some_serial}
 use Rattle.slots.proofs.Places.{held_in_range, some_in_range}
 use Rattle.slots.proofs.Ranges.{in_range, thread_in_range, taken_holders}
 use Rattle.slots.proofs.Finding.{first_some}
-use Rattle.std.proofs.lemmas.Bool.{cases_eq, cond-true, cond-false, or_left, or_right, or_from, ne_eqb, false≢true}
-use Rattle.events.specs.declared.Event.{Event}
-use Rattle.events.specs.declared.Action.{Action}
-use Rattle.events.specs.declared.Action.TheVariants.{Read, Write, Acquire, Release, ReadFlag, WriteFlag, Fork, Join, Allocate, Commit}
-use Rattle.events.specs.declared.PlaceSet.{PlaceSet}
 use Rattle.order.specs.Acts.{by, touches, writes_place, reads_place}
 use Rattle.order.specs.Cells.{some_in, arrived, pending, cell_read, cell_witness, cell_race}
-use Rattle.order.proofs.Computing.{acts}
 use Rattle.order.specs.Judgement.{Finding, found}
 use Rattle.order.specs.Searches.{first_from, or_else}
 use Rattle.order.specs.Slots.{Set, taken}
+use Rattle.order.proofs.Computing.{acts}
 use Rattle.order.proofs.Options.{some_not_none}
 use Rattle.order.proofs.Searches.{first_from_cases, first_from_same}
 

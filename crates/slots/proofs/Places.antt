@@ -1,18 +1,18 @@
 -- The holders of the places of a set. Assumes nothing.
-use Rattle.std.proofs.Common.{◌≡◌, ℕ, zero, suc, ◌+◌, ◌/◌, ◌%◌, ◌^◌, ◌<◌, ◌≤◌, min, max, Bool, true, false, cond, ◌&&◌, ◌||◌, eqb, ltb, List, [], ◌∷◌, map, refl, sym, ap, ◌∙◌, inl, inr, subst, arith}
-use mathlib.Core.Path.{fun_ext}
-use lib.Bits.{bit_or, or_shr}
-use Rattle.std.proofs.lemmas.Bool.Decides.{nat_tests}
 use Rattle.std.specs.List.{AllByRecursion, list_any}
+use Rattle.std.proofs.Common.{◌≡◌, ℕ, zero, suc, ◌+◌, ◌/◌, ◌%◌, ◌^◌, ◌<◌, ◌≤◌, min, max, Bool, true, false, cond, ◌&&◌, ◌||◌, eqb, ltb, List, [], ◌∷◌, map, refl, sym, ap, ◌∙◌, inl, inr, subst, arith}
+use Rattle.std.proofs.lemmas.Bool.Decides.{nat_tests}
 use Rattle.std.proofs.ByRecursion.{All-append}
 use Rattle.std.proofs.lemmas.Bool.{cases_lt, lt-ltb, le-ltb, and_from, and_left, and_right}
+use mathlib.Core.Path.{fun_ext}
+use lib.Bits.{bit_or, or_shr}
 use Rattle.events.specs.Places.{member, those_below}
 use Rattle.keepers.specs.Meaning.{Meaning, is_slot, is_holder}
 use Rattle.order.specs.Slots.{place_holders}
 use Rattle.order.specs.Cells.{some_in}
+use Rattle.order.proofs.PassCounts.{or_bit}
 use Rattle.slots.specs.Made.{held}
 use Rattle.slots.specs.HoldersLeft.{capped}
-use Rattle.order.proofs.PassCounts.{or_bit}
 
 either_bit : (p a b : ℕ) → a < 2 → b < 2 → (ltb p 64 && eqb (max a b) 1) ≡ (ltb p 64 && eqb a 1 || ltb p 64 && eqb b 1)
 either_bit p a b l m = grind (arith, nat_tests)
