@@ -4,7 +4,7 @@
 --   asked rec p a t    what the question about access a of place p and thread t comes to
 --   told_of r          the answer that such a question's result stands for
 --   WhenAccepted v P, UnlessAccepted v P   P is said where v accepts, or where it does not
-use Rattle.std.specs.Prelude.{ℕ, ◌+◌, Bool, cond, ◌||◌, List, Some, None, Ok, Err, Option, Result, nat_le}
+use Rattle.std.specs.Prelude.{ℕ, ◌+◌, Bool, false, cond, ◌||◌, List, Some, None, Ok, Err, Option, Result, nat_le}
 use Rattle.events.specs.declared.Event.{Event}
 use Rattle.order.specs.Judgement.{Answer, accepted, refused, declined}
 use Rattle.order.specs.Questions as questions
@@ -43,7 +43,7 @@ slot_of access.Write = 0
 slot_of (access.Read t) = t + 1
 
 abbrev pub no_reader : Access → Bool
-no_reader access.Write = nat_le 8 0
+no_reader access.Write = false
 no_reader (access.Read t) = nat_le 8 t
 
 abbrev pub asked : List Event → ℕ → Access → ℕ → Result (Option questions.Told) ℕ

@@ -1,8 +1,7 @@
 // Starting a monitor, offering it events, and the questions.
 ghost use Rattle.std.specs.Prelude.{◌≡◌, List, [], ◌∷◌, length};
 ghost use Rattle.events.specs.declared.Event.{Event as AnEvent};
-ghost use Rattle.order.specs.Judgement.{judge};
-ghost use Rattle.order.specs.Judgement.{accepted as accepted_as};
+ghost use Rattle.order.specs.Judgement.{judge, accepted as accepted_as};
 ghost use Rattle.order.specs.Work.{calls};
 ghost use Rattle.slots.specs.Made.{made};
 ghost use Rattle.monitor.specs.Answers.{told, asked, told_of, UnlessAccepted};

@@ -51,6 +51,7 @@ impl Call {
         ensures ok { OnOk result (calls.new.items ≡ calls.old.items ++ self ∷ []) }
         ensures err { OnErr result (calls.new.items ≡ calls.old.items) }
         ensures room { deque_len calls.old < deque_capacity calls.old → IsOk result }
+        ensures capacity { deque_capacity calls.old ≤ deque_capacity calls.new }
     {
         calls.push_back(self).map_err(|back| {
             back.value.abandon();
