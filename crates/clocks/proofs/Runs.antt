@@ -1,7 +1,8 @@
 -- Clocks and epochs as functions: what a begin and a pass do to the sets, and that they go on running. Assumes nothing.
 --
 -- f h t       how far holder h has heard of thread t; a passes to b
-use Rattle.std.proofs.Common.{◌≡◌, ℕ, ◌+◌, ◌<◌, ◌≤◌, max, Bool, true, false, cond, ◌&&◌, ◌||◌, eqb, leb, List, length, get_or, set, replicate, Some, None, Option, sym, refl, ap, ◌∙◌, subst, ap₂, inl, inr, arith}
+use Rattle.std.proofs.Common.{◌≡◌, ℕ, ◌+◌, ◌<◌, ◌≤◌, max, cond, ◌&&◌, ◌||◌, eqb, leb, List, length, get_or, set, replicate, Some, None, Option, sym, refl, ap, ◌∙◌, subst, ap₂, inl, inr, arith}
+use mathlib.Core.Bool.{and-false, or-false}
 use Rattle.std.proofs.lemmas.List.{get_or-set_same, get_or-set_other, get_or-replicate}
 use Rattle.std.proofs.lemmas.Bool.{cases_eq, lt-ltb, le-leb, lt-leb, eq-eqb, ne_eqb, cond-true, cond-false, and_from, and_left, and_right}
 use Rattle.std.proofs.lemmas.Bool.Decides.{nat_tests}
@@ -26,10 +27,6 @@ module _ (f : ℕ → ℕ → ℕ) (a b : ℕ) where
 -- the larger of two counts is no less than c if one of them is
 leb_max : (c x y : ℕ) → leb c (max x y) ≡ (leb c x || leb c y)
 leb_max c x y = grind (arith, nat_tests)
-
-or_none : (x y : Bool) → x ≡ (x || (false && y))
-or_none true y = refl
-or_none false y = refl
 
 module _ (f : ℕ → ℕ → ℕ) (ep : ℕ → Option Epoch) (n a b : ℕ) (run : Run f ep n) (p : a < 136) (q : b < 136) (few : n < 200000000) where
   -- a thread's own count is not changed by what it hears
@@ -110,7 +107,7 @@ module _ (f : ℕ → ℕ → ℕ) (ep : ℕ → Option Epoch) (n a b : ℕ) (ru
           ∙ sym (ap (λ x. leb c (f h t) || (x && leb c (f a t))) (eq-eqb h b e))
       | inr e ↦
           ap (λ x. leb c x) (joined_other f a b h t e)
-          ∙ or_none (leb c (f h t)) (leb c (f a t))
+          ∙ sym (or-false (leb c (f h t)))
           ∙ sym (ap (λ x. leb c (f h t) || (x && leb c (f a t))) (ne_eqb h b e))
     ]
   ]
@@ -130,11 +127,7 @@ module _ (f : ℕ → ℕ → ℕ) (ep : ℕ → Option Epoch) (n a b : ℕ) (ru
 
     reached_passed : (o : Option Epoch) → ((e : Epoch) → o ≡ Some e → (e.thread < 8) × (e.count ≤ f e.thread e.thread))
         → (h : ℕ) → h < 136 → reached o (g h) ≡ (reached o (f h) || (eqb h b && reached o (f a)))
-    reached_passed None past h l = or_none false false ∙ ap (λ x. false || x) (no_one (eqb h b))
-      where
-        no_one : (x : Bool) → (false && false) ≡ (x && false)
-        no_one true = refl
-        no_one false = refl
+    reached_passed None past h l = sym (and-false (eqb h b))
     reached_passed (Some e) past h l =
         let w = past e refl in
         ap (λ x. leb e.count x) (each h e.thread l w.0) ∙ reached_after h e.thread e.count l w.0 w.1

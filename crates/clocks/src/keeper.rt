@@ -9,7 +9,7 @@ use keepers::{
 };
 
 // As many as there are holders.
-pub const CLOCKS: usize = HOLDERS as usize;
+const CLOCKS: usize = HOLDERS as usize;
 
 #[derive(Drop)]
 pub struct Clocks {

@@ -1,8 +1,8 @@
 // The clock keeper: a clock vector for each holder and an epoch for each slot.
 #![tactic(auto)]
 
-pub mod keeper;
-pub mod vector;
+mod keeper;
+mod vector;
 
 pub use keeper::Clocks;
 pub use vector::{ClockVector, Epoch};

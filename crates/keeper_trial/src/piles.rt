@@ -54,7 +54,8 @@ impl Piles {
         ensures twice { IfOk result (λ p. p.twice.items ≡ p.locksets.items) }
         ensures sets { OnOk result (locksets_mean self.new.locksets ≡ after_all cleared calls.now) }
         ensures clock_sets { OnOk result (clocks_mean self.new.clocks ≡ locksets_mean self.new.locksets) }
-        ensures layer_sets { OnOk result (locksets_mean self.new.over_locksets.below ≡ clocks_mean self.new.over_clocks.below) }
+        ensures layer_sets { OnOk result (locksets_mean self.new.over_locksets.below ≡ after_all cleared calls.now) }
+        ensures clock_layer_sets { OnOk result (clocks_mean self.new.over_clocks.below ≡ after_all cleared calls.now) }
         ensures twice_sets { OnOk result (clocks_mean self.new.twice.below.below ≡ after_all cleared calls.now) }
     {
         let plain = alike(heap, &mut self.locksets, &mut self.clocks, calls)?;

@@ -5,7 +5,7 @@
 -- passes-NAME    the count after the call             NAME-from      the meaning after the call, from its parts
 use Rattle.std.proofs.Common.{◌≡◌, ℕ, ◌+◌, ◌<◌, ◌≤◌, Bool, true, false, cond, ◌&&◌, ◌||◌, eqb, ltb, Ok, Err, Result, sym, refl, ap, ◌∙◌, ap₂, inl, inr, arith}
 use mathlib.Core.Path.{fun_ext}
-use Rattle.std.proofs.lemmas.Bool.{lt-ltb, le-ltb, ltb-true, and_from, and_parts, and_left, and_right, or_left, cond-true, cond-false, cond_both, eq-eqb, ne_eqb, cases_lt}
+use Rattle.std.proofs.lemmas.Bool.{lt-ltb, le-ltb, ltb-true, and_from, and_parts, and_left, and_right, or_left, cond-true, cond-false, cond_both, eq-eqb, ne_eqb, cases_lt, false_from_ne_true}
 use Rattle.keepers.specs.declared.fault.KeeperFault.{KeeperFault}
 use Rattle.keepers.specs.declared.fault.KeeperFault.TheVariants.{OutOfRange, PassLimit}
 use Rattle.keepers.specs.Meaning.{Meaning, is_slot, is_holder, is_thread, may_pass}
@@ -16,13 +16,9 @@ use Rattle.keepers.specs.Meaning.{cleared, begun, forgotten, passed, begin_answe
 both_below : (a m b n : ℕ) → a < m → b < n → (ltb a m && ltb b n) ≡ true
 both_below a m b n p q = and_from (ltb a m) (ltb b n) (lt-ltb a m p) (lt-ltb b n q)
 
-false_from : (t : Bool) → (t ≡ true → ⊥) → t ≡ false
-false_from true no_way = absurd (no_way refl)
-false_from false no_way = refl
-
 not_both_below : (a m b n : ℕ) → (a < m → b < n → ⊥) → (ltb a m && ltb b n) ≡ false
 not_both_below a m b n no_way =
-    false_from (ltb a m && ltb b n) (λ e. let p = and_parts (ltb a m) (ltb b n) e in no_way (ltb-true a m p.0) (ltb-true b n p.1))
+    false_from_ne_true (ltb a m && ltb b n) (λ e. let p = and_parts (ltb a m) (ltb b n) e in no_way (ltb-true a m p.0) (ltb-true b n p.1))
 
 -- two meanings are the same if all their sets and their counts are
 pub same_meaning : (m n : Meaning) → ((s h : ℕ) → m.sets s h ≡ n.sets s h) → m.passes ≡ n.passes → m ≡ n
@@ -115,22 +111,22 @@ module _ (slot : ℕ) (p : slot < 576) where
 -- pass, in range and below the limit
 
 module _ (m : Meaning) (from to : ℕ) (p : from < 136) (q : to < 136) (few : m.passes < 200000000) where
-  passes_on : ((is_holder from && is_holder to) && may_pass m) ≡ true
-  passes_on = and_from (is_holder from && is_holder to) (may_pass m) (both_below from 136 to 136 p q) (lt-ltb m.passes 200000000 few)
+  passes_on : ((is_holder from && is_holder to) && may_pass m.passes) ≡ true
+  passes_on = and_from (is_holder from && is_holder to) (may_pass m.passes) (both_below from 136 to 136 p q) (lt-ltb m.passes 200000000 few)
 
   pub pass_taken : pass_answer m from to ≡ Ok tt
   unfolding pass_answer
   pass_taken =
-      cond-true (is_holder from && is_holder to) (cond (may_pass m) (Ok tt) (Err PassLimit)) (Err OutOfRange) (both_below from 136 to 136 p q)
-      ∙ cond-true (may_pass m) (Ok tt) (Err PassLimit) (lt-ltb m.passes 200000000 few)
+      cond-true (is_holder from && is_holder to) (cond (may_pass m.passes) (Ok tt) (Err PassLimit)) (Err OutOfRange) (both_below from 136 to 136 p q)
+      ∙ cond-true (may_pass m.passes) (Ok tt) (Err PassLimit) (lt-ltb m.passes 200000000 few)
 
   pub sets_passed : (s h : ℕ) → (passed m from to).sets s h ≡ (m.sets s h || (eqb h to && m.sets s from))
   unfolding passed
-  sets_passed s h = ap (λ (n : Meaning). n.sets s h) (cond-true ((is_holder from && is_holder to) && may_pass m) _ m passes_on)
+  sets_passed s h = ap (λ (n : Meaning). n.sets s h) (cond-true ((is_holder from && is_holder to) && may_pass m.passes) _ m passes_on)
 
   pub passes_passed : (passed m from to).passes ≡ m.passes + 1
   unfolding passed
-  passes_passed = ap (λ (n : Meaning). n.passes) (cond-true ((is_holder from && is_holder to) && may_pass m) _ m passes_on)
+  passes_passed = ap (λ (n : Meaning). n.passes) (cond-true ((is_holder from && is_holder to) && may_pass m.passes) _ m passes_on)
 
   pub passed_from : (n : Meaning) → ((s h : ℕ) → n.sets s h ≡ (m.sets s h || (eqb h to && m.sets s from))) → n.passes ≡ m.passes + 1 → n ≡ passed m from to
   passed_from n sets passes = same_meaning n (passed m from to) (λ s h. sets s h ∙ sym (sets_passed s h)) (passes ∙ sym passes_passed)
@@ -144,25 +140,25 @@ module _ (m : Meaning) (from to : ℕ) (out : from < 136 → to < 136 → ⊥) w
 
   pub passed_same : passed m from to ≡ m
   unfolding passed
-  passed_same = cond-false ((is_holder from && is_holder to) && may_pass m) _ m (and_left (is_holder from && is_holder to) (may_pass m) (not_both_below from 136 to 136 out))
+  passed_same = cond-false ((is_holder from && is_holder to) && may_pass m.passes) _ m (and_left (is_holder from && is_holder to) (may_pass m.passes) (not_both_below from 136 to 136 out))
 
 module _ (m : Meaning) (from to : ℕ) (p : from < 136) (q : to < 136) (full : 200000000 ≤ m.passes) where
   pub pass_full : pass_answer m from to ≡ Err PassLimit
   unfolding pass_answer
   pass_full =
-      cond-true (is_holder from && is_holder to) (cond (may_pass m) (Ok tt) (Err PassLimit)) (Err OutOfRange) (both_below from 136 to 136 p q)
-      ∙ cond-false (may_pass m) (Ok tt) (Err PassLimit) (le-ltb m.passes 200000000 full)
+      cond-true (is_holder from && is_holder to) (cond (may_pass m.passes) (Ok tt) (Err PassLimit)) (Err OutOfRange) (both_below from 136 to 136 p q)
+      ∙ cond-false (may_pass m.passes) (Ok tt) (Err PassLimit) (le-ltb m.passes 200000000 full)
 
   pub passed_full : passed m from to ≡ m
   unfolding passed
-  passed_full = cond-false ((is_holder from && is_holder to) && may_pass m) _ m (and_right (is_holder from && is_holder to) (may_pass m) (le-ltb m.passes 200000000 full))
+  passed_full = cond-false ((is_holder from && is_holder to) && may_pass m.passes) _ m (and_right (is_holder from && is_holder to) (may_pass m.passes) (le-ltb m.passes 200000000 full))
 
 -- no pass takes a holder out of a set, or counts past the limit
 
 pub stays_passed : (m : Meaning) (from to s h : ℕ) → m.sets s h ≡ true → (passed m from to).sets s h ≡ true
 unfolding passed
 stays_passed m from to s h e =
-    cond_both ((is_holder from && is_holder to) && may_pass m) _ m (λ n. n.sets s h ≡ true) (λ _. or_left (m.sets s h) (eqb h to && m.sets s from) e) (λ _. e)
+    cond_both ((is_holder from && is_holder to) && may_pass m.passes) _ m (λ n. n.sets s h ≡ true) (λ _. or_left (m.sets s h) (eqb h to && m.sets s from) e) (λ _. e)
 
 -- and an empty set stays empty
 pub stays_empty : (m : Meaning) (from to s : ℕ) → ((h : ℕ) → m.sets s h ≡ false) → (h : ℕ) → (passed m from to).sets s h ≡ false
@@ -174,8 +170,8 @@ stays_empty m from to s none h =
 pub passes_within : (m : Meaning) (from to : ℕ) → m.passes ≤ 200000000 → (passed m from to).passes ≤ 200000000
 unfolding passed
 passes_within m from to few =
-    cond_both ((is_holder from && is_holder to) && may_pass m) _ m (λ n. n.passes ≤ 200000000)
-    (λ t. let l = ltb-true m.passes 200000000 (and_parts (is_holder from && is_holder to) (may_pass m) t).1 in omega arith) (λ _. few)
+    cond_both ((is_holder from && is_holder to) && may_pass m.passes) _ m (λ n. n.passes ≤ 200000000)
+    (λ t. let l = ltb-true m.passes 200000000 (and_parts (is_holder from && is_holder to) (may_pass m.passes) t).1 in omega arith) (λ _. few)
 
 -- ask
 

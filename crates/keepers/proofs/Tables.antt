@@ -1,19 +1,16 @@
 -- The sets of a table when it is made, after one entry is written, and after a pass. Assumes nothing.
 use Rattle.std.proofs.Common.{◌≡◌, ℕ, ◌<◌, Bool, true, false, cond, ◌&&◌, ◌||◌, eqb, List, length, get_or, set, replicate, sym, refl, ap, ◌∙◌, inl, inr, arith}
+use mathlib.Core.Bool.{and-false}
 use Rattle.std.proofs.lemmas.List.{get_or-set_same, get_or-set_other, get_or-replicate}
 use Rattle.std.proofs.lemmas.Bool.{cases_eq, cases_lt, lt-ltb, le-ltb, eq-eqb, ne_eqb, eqb-true, ltb-true, cond-true, cond-false}
 use Rattle.keepers.specs.Meaning.{is_slot, is_holder}
 use Rattle.keepers.specs.Tables.{table}
 
-and_false : (b : Bool) → (b && false) ≡ false
-and_false true = refl
-and_false false = refl
-
 -- a set within the range of holders
 
 pub none_within : (f : ℕ → Bool) → ((h : ℕ) → h < 136 → f h ≡ false) → (h : ℕ) → (is_holder h && f h) ≡ false
 none_within f means h = elim (cases_lt h 136) [
-  | inl l ↦ ap (λ b. is_holder h && b) (means h l) ∙ and_false (is_holder h)
+  | inl l ↦ ap (λ b. is_holder h && b) (means h l) ∙ and-false (is_holder h)
   | inr l ↦ ap (λ b. b && f h) (le-ltb h 136 l)
 ]
 

@@ -7,6 +7,8 @@
 -- forgotten m s    m after a forget: the set of slot s is empty
 -- passed m a b     m after a pass: every set that has holder a has holder b too, one pass more
 -- NAME_answer      what the call NAME answers; a refused call leaves the meaning as it was
+-- pass_at n a b    what a pass answers after n passes
+-- may_pass n       after n passes one more is counted
 --
 -- Slots are 0 to 575 and holders 0 to 135; holders 0 to 7 are the threads.
 use Rattle.std.specs.Prelude.{ℕ, ◌+◌, Bool, false, cond, ◌&&◌, ◌||◌, Ok, Err, Result, ◌==◌, nat_lt}
@@ -28,8 +30,8 @@ is_holder h = nat_lt h 136
 abbrev pub is_thread : ℕ → Bool
 is_thread t = nat_lt t 8
 
-abbrev pub may_pass : Meaning → Bool
-may_pass m = nat_lt m.passes 200000000
+abbrev pub may_pass : ℕ → Bool
+may_pass passes = nat_lt passes 200000000
 
 -- the meaning after each call
 
@@ -43,7 +45,7 @@ unfoldable pub forgotten : Meaning → ℕ → Meaning
 forgotten m slot = cond (is_slot slot) (record { sets = λ s h. cond (s == slot) false (m.sets s h); passes = m.passes }) m
 
 unfoldable pub passed : Meaning → ℕ → ℕ → Meaning
-passed m from to = cond ((is_holder from && is_holder to) && may_pass m) (record { sets = λ s h. m.sets s h || (h == to && m.sets s from); passes = m.passes + 1 }) m
+passed m from to = cond ((is_holder from && is_holder to) && may_pass m.passes) (record { sets = λ s h. m.sets s h || (h == to && m.sets s from); passes = m.passes + 1 }) m
 
 -- the answers
 
@@ -58,7 +60,7 @@ forget_answer slot = in_range (is_slot slot)
 
 -- of a pass only the count matters
 abbrev pub pass_at : ℕ → ℕ → ℕ → Result (Unit {0}) KeeperFault
-pass_at passes from to = cond (is_holder from && is_holder to) (cond (nat_lt passes 200000000) (Ok tt) (Err PassLimit)) (Err OutOfRange)
+pass_at passes from to = cond (is_holder from && is_holder to) (cond (may_pass passes) (Ok tt) (Err PassLimit)) (Err OutOfRange)
 
 unfoldable pub pass_answer : Meaning → ℕ → ℕ → Result (Unit {0}) KeeperFault
 pass_answer m from to = pass_at m.passes from to

@@ -50,7 +50,7 @@ pub fn alike<A: Keeper, B: Keeper>(
     ensures ends { OnOk result (A.meaning a.new ≡ B.meaning b.new) }
     ensures effect { OnOk result (A.meaning a.new ≡ after_all cleared calls.now) }
     ensures lives { OnOk result (A.live a.new × B.live b.new) }
-    ensures first { OnErr result ((a.new ≡ a.old) ⊎ (A.meaning a.new ≡ after_all cleared calls.now)) }
+    ensures first { OnErr result ((a.new ≡ a.old) ⊎ (A.live a.new × (A.meaning a.new ≡ after_all cleared calls.now))) }
     ensures second { OnErr result (b.new ≡ b.old) }
 {
     let first = drive(heap, a, calls)?;

@@ -1,12 +1,12 @@
 // The interface of a keeper: which accesses have reached whom, and how each call answers.
 #![tactic(auto)]
 
-pub mod calls;
-pub mod fault;
-pub mod keeper;
-pub mod law;
-pub mod limits;
-pub mod ranges;
+mod calls;
+mod fault;
+mod keeper;
+mod law;
+mod limits;
+mod ranges;
 
 pub use calls::{KeeperAnswer, KeeperCall};
 pub use fault::KeeperFault;

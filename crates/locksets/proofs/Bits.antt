@@ -1,5 +1,6 @@
 -- Reading and writing one bit of a word, and one holder of a set. Assumes nothing.
 use Rattle.std.proofs.Common.{◌≡◌, ℕ, zero, suc, ◌+◌, ◌-◌, ◌*◌, ◌/◌, ◌%◌, ◌^◌, ◌<◌, Bool, true, false, ◌&&◌, ◌||◌, eqb, List, [], ◌∷◌, length, get_or, set, sym, refl, ap, ◌∙◌, ap₂, inl, inr, arith}
+use mathlib.Core.Bool.{and-true, and-false, or-false}
 use native.Mathlib.Nat.{zero-div, div_self, div-eq_of_lt, mul-mod_right}
 use lib.Bits.{bit_and, bit_or}
 use Rattle.std.proofs.lemmas.Nat.{pow_pos, pow-add, pow_below, shl-shr, shl_whole, and_mask, or_shr, or_mod}
@@ -58,25 +59,13 @@ bit_joined w v j =
     let e : bit_or w v / 2 ^ j % 2 ≡ bit_or (w / 2 ^ j % 2) (v / 2 ^ j % 2) = ap (λ n. n % 2) (or_shr w v j) ∙ or_mod (w / 2 ^ j) (v / 2 ^ j) 1 in
     ap (λ n. eqb n 1) e ∙ or_digits (w / 2 ^ j % 2) (v / 2 ^ j % 2) (omega arith) (omega arith)
 
-and_true : (b : Bool) → b ≡ (b && true)
-and_true true = refl
-and_true false = refl
-
-and_false : (b : Bool) → false ≡ (b && false)
-and_false true = refl
-and_false false = refl
-
 -- the digit v, 0 or 1, put at bit k
 placed_bit : (v k j : ℕ) → v < 2 → bit (v * 2 ^ k) j ≡ (eqb j k && eqb v 1)
-placed_bit zero k j p = ap (λ n. eqb (n / 2 ^ j % 2) 1) (let e : 0 * 2 ^ k ≡ 0 = omega arith in e) ∙ bit_zero j ∙ and_false (eqb j k)
-placed_bit (suc zero) k j p = ap (λ n. eqb (n / 2 ^ j % 2) 1) (let e : 1 * 2 ^ k ≡ 2 ^ k = omega arith in e) ∙ pow_bit k j ∙ and_true (eqb j k)
+placed_bit zero k j p = ap (λ n. eqb (n / 2 ^ j % 2) 1) (let e : 0 * 2 ^ k ≡ 0 = omega arith in e) ∙ bit_zero j ∙ sym (and-false (eqb j k))
+placed_bit (suc zero) k j p = ap (λ n. eqb (n / 2 ^ j % 2) 1) (let e : 1 * 2 ^ k ≡ 2 ^ k = omega arith in e) ∙ pow_bit k j ∙ sym (and-true (eqb j k))
 placed_bit (suc (suc v)) k j p = absurd (omega arith)
 
 -- a row of words, of 64 holders each
-
-or_none : (b c : Bool) → b ≡ (b || (false && c))
-or_none true c = refl
-or_none false c = refl
 
 same_place : (h t : ℕ) → h / 64 ≡ t / 64 → eqb (h % 64) (t % 64) ≡ eqb h t
 same_place h t e = elim (cases_eq h t) [
@@ -85,7 +74,7 @@ same_place h t e = elim (cases_eq h t) [
 ]
 
 -- the row after the digit v is put at holder t
-pub row_placed : (ws : List ℕ) (v t h : ℕ) → v < 2 → t / 64 < length ws
+row_placed : (ws : List ℕ) (v t h : ℕ) → v < 2 → t / 64 < length ws
     → bit (get_or (set ws (t / 64) (bit_or (get_or ws (t / 64) 0) ((v * 2 ^ (t % 64)) % 2 ^ 64))) (h / 64) 0) (h % 64) ≡ (bit (get_or ws (h / 64) 0) (h % 64) || (eqb h t && eqb v 1))
 row_placed ws v t h small within =
     let old : ℕ = get_or ws (t / 64) 0 in
@@ -101,7 +90,7 @@ row_placed ws v t h small within =
           (ap (λ n. bit n (h % 64)) whole ∙ placed_bit v (t % 64) (h % 64) small ∙ ap (λ b. b && eqb v 1) (same_place h t e))
       | inr n ↦
           ap (λ w. bit w (h % 64)) (get_or-set_other ws (t / 64) (h / 64) (bit_or old digit) 0 n)
-          ∙ or_none (bit (get_or ws (h / 64) 0) (h % 64)) (eqb v 1)
+          ∙ sym (or-false (bit (get_or ws (h / 64) 0) (h % 64)))
           ∙ ap (λ b. bit (get_or ws (h / 64) 0) (h % 64) || (b && eqb v 1)) (sym (ne_eqb h t (λ p. n (ap (λ m. m / 64) p))))
     ]
 
@@ -128,7 +117,7 @@ pub member_only : (t h : ℕ) → t < 8 → member (with_holder no_holder t) h �
 member_only t h small =
     member_placed no_holder 1 t h (omega arith) (omega arith)
     ∙ ap (λ b. b || (eqb h t && true)) (member_none h)
-    ∙ sym (and_true (eqb h t))
+    ∙ and-true (eqb h t)
 
 pub member_carried : (s : LockSet) (a b h : ℕ) → Wide s b → member (carried s a b) h ≡ (member s h || (eqb h b && member s a))
 member_carried s a b h wide = member_placed s (bit_of s.words a) b h (omega (arith, and_mask (get_or s.words (a / 64) 0 / 2 ^ (a % 64)) 1)) wide

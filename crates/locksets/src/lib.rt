@@ -1,8 +1,8 @@
 // The lockset keeper: the set of holders of each slot, kept as it stands.
 #![tactic(auto)]
 
-pub mod keeper;
-pub mod set;
+mod keeper;
+mod set;
 
 pub use keeper::Locksets;
 pub use set::LockSet;

@@ -1,5 +1,5 @@
 -- The agreement of the owner table with the keeper below, kept by each call. Assumes nothing.
-use Rattle.std.proofs.Common.{◌≡◌, ℕ, ◌<◌, Bool, true, false, cond, ◌&&◌, eqb, get_or, Some, None, Ok, Err, Option, Result, sym, refl, ap, ◌∙◌, subst, inl, inr, arith}
+use Rattle.std.proofs.Common.{◌≡◌, ℕ, ◌<◌, true, false, cond, ◌&&◌, eqb, get_or, Some, None, Ok, Err, Option, sym, ap, ◌∙◌, subst, inl, inr, arith}
 use Rattle.std.proofs.lemmas.List.{get_or-replicate}
 use Rattle.std.proofs.lemmas.Bool.{cases_eq, cases_lt, lt-ltb, le-ltb, eq-eqb, ne_eqb, cond-true, cond-false, and_from, and_left, and_right}
 use Rattle.keepers.specs.Meaning.{Meaning, is_slot, cleared, begun, forgotten, passed, begin_answer, ask_answer}
@@ -92,15 +92,3 @@ pub owner_answered : (m : Meaning) (o : OwnerTable) (slot holder : ℕ) → owne
 owner_answered m o slot holder is owned =
     let h = owned.owned slot holder is in
     ap (λ b. Ok b) (sym h.2) ∙ sym (ask_taken m slot holder h.0 (let small = h.1 in omega arith))
-
--- whether or not the owner asks, the answer is the one from below
-pub agree_asked : (m : Meaning) (o : OwnerTable) (slot holder : ℕ) (r : Result Bool KeeperFault) → Owned m o
-    → (owner_at o slot ≡ Some holder → r ≡ Ok true) → ((owner_at o slot ≡ Some holder → ⊥) → r ≡ ask_answer m slot holder) → r ≡ ask_answer m slot holder
-agree_asked m o slot holder r owned own below = by (owner_at o slot) refl
-  where
-    by : (x : Option ℕ) → owner_at o slot ≡ x → r ≡ ask_answer m slot holder
-    by None e = below (λ f. let z : ◌≡◌ {A = ℕ} 0 1 = cc in omega arith)
-    by (Some t) e = elim (cases_eq t holder) [
-      | inl p ↦ let is : owner_at o slot ≡ Some holder = e ∙ ap (λ (n : ℕ). Some n) p in own is ∙ owner_answered m o slot holder is owned
-      | inr d ↦ below (λ f. d (let same : t ≡ holder = cc in same))
-    ]

@@ -85,7 +85,8 @@ pub fn layer_alike<K: Keeper>(
     ensures answers { IfOk result (λ both. both.first.items ≡ answers_to cleared calls.now) }
     ensures ends { OnOk result (K.meaning plain.new ≡ K.meaning layered.new.below) }
     ensures effect { OnOk result (K.meaning plain.new ≡ after_all cleared calls.now) }
-    ensures first { OnErr result ((plain.new ≡ plain.old) ⊎ (K.meaning plain.new ≡ after_all cleared calls.now)) }
+    ensures lives { OnOk result (K.live plain.new × ⟦<ShortCut<K> as Keeper>⟧.live layered.new) }
+    ensures first { OnErr result ((plain.new ≡ plain.old) ⊎ (K.live plain.new × (K.meaning plain.new ≡ after_all cleared calls.now))) }
     ensures second { OnErr result (layered.new ≡ layered.old) }
 {
     alike(heap, plain, layered, calls)

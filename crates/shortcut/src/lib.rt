@@ -1,8 +1,8 @@
 // The short-cut layer: stands over any keeper, and answers for the thread that began a slot by itself.
 #![tactic(auto)]
 
-pub mod layer;
-pub mod owners;
+mod layer;
+mod owners;
 
 pub use layer::{ShortCut, layer_alike};
 pub use owners::OwnerTable;
