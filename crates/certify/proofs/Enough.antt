@@ -3,7 +3,6 @@ use Rattle.std.proofs.Common.{◌≡◌, ℕ, ◌<◌, List, [], length, take, I
 use Rattle.std.proofs.lemmas.Bool.{cases_lt}
 use Rattle.std.proofs.lemmas.List.{length-take-le, take_all}
 use Rattle.std.specs.Option.{option_map}
-use Rattle.std.specs.Io.KnownBytes.{Appends}
 use Rattle.order.proofs.Judgement.{nothing_races}
 use Rattle.trace.specs.declared.fault.TraceFault.TheVariants.{TooLong}
 use Rattle.trace.specs.Reading.{site, entered, inside, outside, onward, unless_refused}
@@ -17,7 +16,7 @@ use Rattle.certificate.specs.Certified.{Certifies}
 use Rattle.certificate.proofs.Agreeing.{agree}
 use Rattle.certificate.proofs.LastLines.{tells}
 use Rattle.certificate.proofs.Sentences.{sentence}
-use Rattle.certify.specs.Prints.{Prints}
+use Rattle.certify.specs.Prints.{CertifiesAll}
 
 -- what the run of such a file comes to
 abbrev refused_long : Outcome
@@ -60,12 +59,6 @@ certified_whole bytes t c =
     (cases_lt 65536 (length bytes))
 
 -- what was read is the reader's first 65,537 bytes, where they are known
-pub prints : (input old new : Option (List ℕ)) (read t : List ℕ) → IfSome (option_map (take 65537) input) (λ bytes. read ≡ bytes) → Certifies read t → Appends old new t → Prints input old new
-prints (Some bytes) old new read t is c appended = record {
-  file = bytes;
-  text = t;
-  whole = refl;
-  certifies = certified_whole bytes t (subst (λ xs. Certifies xs t) is c);
-  appended = appended;
-}
-prints None old new read t is c appended = record { file = read; text = t; whole = tt; certifies = c; appended = appended }
+pub certifies_all : (input : Option (List ℕ)) (read t : List ℕ) → IfSome (option_map (take 65537) input) (λ bytes. read ≡ bytes) → Certifies read t → CertifiesAll input t
+certifies_all (Some bytes) read t is c = record { file = bytes; whole = refl; certifies = certified_whole bytes t (subst (λ xs. Certifies xs t) is c) }
+certifies_all None read t is c = record { file = read; whole = tt; certifies = c }
