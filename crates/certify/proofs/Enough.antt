@@ -3,12 +3,11 @@ use Rattle.std.proofs.Common.{◌≡◌, ℕ, ◌<◌, List, [], length, take, I
 use Rattle.std.proofs.lemmas.Bool.{cases_lt}
 use Rattle.std.proofs.lemmas.List.{length-take-le, take_all}
 use Rattle.std.specs.Option.{option_map}
-use Rattle.std.specs.Io.KnownBytes.{Appends}
 use Rattle.order.proofs.Judgement.{nothing_races}
 use Rattle.trace.specs.declared.fault.TraceFault.TheVariants.{TooLong}
+use Rattle.trace.specs.declared.fault.Refusal.{Refusal}
 use Rattle.trace.specs.Reading.{site, entered, inside, outside, onward, unless_refused}
-use Rattle.trace.specs.Refusals.{at_front, too_long}
-use Rattle.trace.proofs.Answered.{begun_outside}
+use Rattle.trace.specs.Refusals.{too_long}
 use Rattle.trace.proofs.Refusals.{refusal_opens}
 use Rattle.certificate.specs.declared.fault.Cause.TheVariants.{Trace}
 use Rattle.certificate.specs.Running.{Outcome, StopsAs, Runs}
@@ -17,11 +16,14 @@ use Rattle.certificate.specs.Certified.{Certifies}
 use Rattle.certificate.proofs.Agreeing.{agree}
 use Rattle.certificate.proofs.LastLines.{tells}
 use Rattle.certificate.proofs.Sentences.{sentence}
-use Rattle.certify.specs.Prints.{Prints}
+use Rattle.certify.specs.Prints.{CertifiesAll}
 
--- what the run of such a file comes to
+-- the refusal of such a file, and what its run comes to
+abbrev too_many : Refusal
+too_many = record { fault = TooLong; at = record { section = 0; event = 0; byte = 65536 } }
+
 abbrev refused_long : Outcome
-refused_long = record { recorded_as = []; findings = []; end = Some (record { cause = Trace TooLong; at = (at_front TooLong 65536).at }); place = outside }
+refused_long = record { recorded_as = []; findings = []; end = Some (record { cause = Trace TooLong; at = too_many.at }); place = outside }
 
 abbrev long_text : List ℕ
 long_text = text 0 [] refused_long.end
@@ -29,7 +31,7 @@ long_text = text 0 [] refused_long.end
 runs_long : (bytes : List ℕ) → 65536 < length bytes → Runs bytes outside [] [] [] refused_long
 unfolding Runs
 runs_long bytes long =
-    let shut = refusal_opens bytes (at_front TooLong 65536) (too_long long refl) in
+    let shut = refusal_opens bytes too_many (too_long long refl) in
     record {
       ends = subst (λ o. StopsAs (unless_refused o Err (onward bytes (inside bytes outside))) (site bytes (inside bytes outside)) [] [] refused_long.end) (sym shut) refl;
       record_stays = refl;
@@ -40,7 +42,7 @@ runs_long bytes long =
 long_certified : (bytes : List ℕ) → 65536 < length bytes → Certifies bytes long_text
 long_certified bytes long =
     let runs = runs_long bytes long in
-    let says = sentence bytes outside [] [] refused_long (begun_outside bytes) tt nothing_races runs in
+    let says = sentence bytes outside [] [] refused_long (λ some. absurd (omega arith)) tt nothing_races runs in
     record {
       events = [];
       outcome = refused_long;
@@ -60,12 +62,6 @@ certified_whole bytes t c =
     (cases_lt 65536 (length bytes))
 
 -- what was read is the reader's first 65,537 bytes, where they are known
-pub prints : (input old new : Option (List ℕ)) (read t : List ℕ) → IfSome (option_map (take 65537) input) (λ bytes. read ≡ bytes) → Certifies read t → Appends old new t → Prints input old new
-prints (Some bytes) old new read t is c appended = record {
-  file = bytes;
-  text = t;
-  whole = refl;
-  certifies = certified_whole bytes t (subst (λ xs. Certifies xs t) is c);
-  appended = appended;
-}
-prints None old new read t is c appended = record { file = read; text = t; whole = tt; certifies = c; appended = appended }
+pub certifies_all : (input : Option (List ℕ)) (read t : List ℕ) → IfSome (option_map (take 65537) input) (λ bytes. read ≡ bytes) → Certifies read t → CertifiesAll input t
+certifies_all (Some bytes) read t is c = record { file = bytes; whole = refl; certifies = certified_whole bytes t (subst (λ xs. Certifies xs t) is c) }
+certifies_all None read t is c = record { file = read; whole = tt; certifies = c }
