@@ -31,6 +31,12 @@ pub inside_behind : (bytes : List ℕ) (p : Place) → opening bytes ≡ None �
 inside_behind bytes p none begun =
     cond_both (eqb p.byte 0) (entered bytes (opening bytes) p) p (λ q. 4 + 8 * count bytes ≤ q.byte) (λ _. let in' = ap (λ o. (entered bytes o p).byte) none in omega arith) (λ t. begun (let ne = eqb-false p.byte 0 t in omega arith))
 
+-- and not behind the file's end
+inside_within : (bytes : List ℕ) (p : Place) → opening bytes ≡ None → (0 < p.byte → Stands bytes p) → (inside bytes p).byte ≤ length bytes
+inside_within bytes p none stands =
+    let room = (opened bytes none).room in
+    cond_both (eqb p.byte 0) (entered bytes (opening bytes) p) p (λ q. q.byte ≤ length bytes) (λ _. let in' = ap (λ o. (entered bytes o p).byte) none in omega arith) (λ t. (stands (let ne = eqb-false p.byte 0 t in omega arith)).2)
+
 pub inside_again : (bytes : List ℕ) (p : Place) → 0 < p.byte → inside bytes p ≡ p
 inside_again bytes p some = cond-false (eqb p.byte 0) _ p (ne_eqb p.byte 0 (λ z. omega arith))
 
@@ -130,6 +136,6 @@ pub next_rule : (bytes : List ℕ) (p q : Place) (r : Result (Option Event) Refu
 next_rule bytes p q (Ok (Some e)) stands h at = taken_event bytes p (begun_stands bytes p stands) e (sym h) q at
 next_rule bytes p q (Ok None) stands h at =
     let none = next_none bytes p (sym h) in
-    (opens bytes none.0, none.1, at ∙ after_stays bytes p (λ e g. let both = h ∙ g in absurd (let z : ◌≡◌ {A = ℕ} 0 1 = cc in omega arith)))
+    (opens bytes none.0, omega (arith, none.1, inside_within bytes p none.0 stands), at ∙ after_stays bytes p (λ e g. let both = h ∙ g in absurd (let z : ◌≡◌ {A = ℕ} 0 1 = cc in omega arith)))
 next_rule bytes p q (Err f) stands h at =
     (next_refusal bytes p (begun_stands bytes p stands) f (sym h), at ∙ after_stays bytes p (λ e g. let both = h ∙ g in absurd (let z : ◌≡◌ {A = ℕ} 0 1 = cc in omega arith)))

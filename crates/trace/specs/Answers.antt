@@ -11,6 +11,7 @@ use Rattle.trace.specs.Codec.{event_bytes}
 use Rattle.trace.specs.Layout.{body_end}
 use Rattle.trace.specs.Refusals.{FirstRefusal, Opens, InBody, EventRefusal}
 
+-- every element of a slice of bytes is one, so that a caller always has what `stands` asks
 pub record TakenEvent (bytes : List ℕ) (p : Place) (e : Event) (q : Place) : Type 0 where
   pub opens : Opens bytes
   pub stands : Bytes bytes → take (length (event_bytes e)) (drop p.byte bytes) ≡ event_bytes e
@@ -21,5 +22,5 @@ pub record TakenEvent (bytes : List ℕ) (p : Place) (e : Event) (q : Place) : T
 
 abbrev pub Answers : List ℕ → Place → Place → Result (Option Event) Refusal → Type 0
 Answers bytes p q (Ok (Some e)) = TakenEvent bytes p e q
-Answers bytes p q (Ok None) = Opens bytes × (length bytes ≤ p.byte) × (q ≡ p)
+Answers bytes p q (Ok None) = Opens bytes × (p.byte ≡ length bytes) × (q ≡ p)
 Answers bytes p q (Err f) = (FirstRefusal bytes f ⊎ EventRefusal bytes p f) × (q ≡ p)

@@ -3,8 +3,8 @@
 --   event_bytes e       the event as it stands in a file
 --   size k              how many bytes an event of kind k takes
 --   decoded bytes b     the event whose first byte is at b
---   Words a                the sets of a commit are 64-bit words
 --   event_at bytes b end   the same, or its fault, in a body that ends at `end`
+--   Words a             the sets of a commit are 64-bit words
 use Rattle.std.specs.Prelude.{ℕ, ◌+◌, ◌-◌, ◌^◌, ◌<◌, cond, List, [], ◌∷◌, ◌++◌, Ok, Err, Result, ◌==◌, nat_le, nat_lt, slice_index}
 use Rattle.events.specs.declared.Event.{Event}
 use Rattle.events.specs.declared.Action.{Action}
