@@ -1,9 +1,12 @@
 // Why a run ends before the file does, and where.
-ghost use Rattle.std.specs.Prelude.{◌≡◌};
+ghost use Rattle.std.specs.Prelude.{◌≡◌, Some};
 ghost use Rattle.certificate.specs.Numbers.{number_of, layer_of};
+ghost use Rattle.certificate.specs.Texts.{run_words, cause_words};
 ghost use Rattle.certificate.specs.declared.fault.Cause.TheVariants.{Trace as TraceCase, Monitor as MonitorCase, Run as RunCase};
 
 use roster::RuleFault;
+use std::error::Error;
+use std::fmt;
 use trace::{Refusal, Site, TraceFault};
 
 // The run's own fault.
@@ -77,3 +80,29 @@ impl Cause {
         }
     }
 }
+
+impl fmt::Display for RunFault {
+    ghost output = { λ f. Some (run_words f) };
+
+    fn fmt<W: fmt::Write>(&self, f: &mut fmt::Formatter<W>) -> fmt::Result {
+        f.write_str(match self {
+            RunFault::TooManyFindings => "a thousand findings are listed",
+        })
+    }
+}
+
+impl fmt::Display for Cause {
+    ghost output = { λ c. Some (cause_words c) };
+
+    fn fmt<W: fmt::Write>(&self, f: &mut fmt::Formatter<W>) -> fmt::Result {
+        match self {
+            Cause::Trace(fault) => write!(f, "{fault}"),
+            Cause::Monitor(fault) => write!(f, "{fault}"),
+            Cause::Run(fault) => write!(f, "{fault}"),
+        }
+    }
+}
+
+impl Error for RunFault {}
+
+impl Error for Cause {}

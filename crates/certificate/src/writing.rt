@@ -9,6 +9,7 @@ use crate::finding::Finding;
 use crate::line::Line;
 use crate::text::Certificate;
 
+// How many events are accepted, and how many declined.
 fn first_line(accepted: u32, declined: usize) -> Line
     ensures { result ≡ first_text accepted declined }
 {
@@ -19,6 +20,7 @@ fn first_line(accepted: u32, declined: usize) -> Line
     line
 }
 
+// A finding.
 fn finding_line(finding: Finding) -> Line
     ensures { result ≡ finding_text finding ++ (10 ∷ []) }
 {
@@ -30,6 +32,7 @@ fn finding_line(finding: Finding) -> Line
     line
 }
 
+// The fault that ended the run.
 fn fault_line(fault: Fault) -> Line
     ensures { result ≡ fault_text fault ++ (10 ∷ []) }
 {
@@ -42,6 +45,7 @@ fn fault_line(fault: Fault) -> Line
     line
 }
 
+// A line that is all words.
 fn word_line(words: &[u8]) -> Line
     requires { length words.now ≤ 128 }
     ensures { result ≡ words.now }
@@ -51,6 +55,7 @@ fn word_line(words: &[u8]) -> Line
     line
 }
 
+// How the run ended.
 fn last_line(findings: &[Finding], end: Option<Fault>) -> Line
     ensures { result ≡ last_text findings.now end }
 {
