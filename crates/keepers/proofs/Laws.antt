@@ -164,7 +164,7 @@ stays_passed m from to s h e =
 pub stays_empty : (m : Meaning) (from to s : ℕ) → ((h : ℕ) → m.sets s h ≡ false) → (h : ℕ) → (passed m from to).sets s h ≡ false
 unfolding passed
 stays_empty m from to s none h =
-    cond_both ((is_holder from && is_holder to) && may_pass m) _ m (λ n. n.sets s h ≡ false)
+    cond_both ((is_holder from && is_holder to) && may_pass m.passes) _ m (λ n. n.sets s h ≡ false)
     (λ _. ap (λ b. b || (eqb h to && m.sets s from)) (none h) ∙ and_right (eqb h to) (m.sets s from) (none from)) (λ _. none h)
 
 pub passes_within : (m : Meaning) (from to : ℕ) → m.passes ≤ 200000000 → (passed m from to).passes ≤ 200000000
