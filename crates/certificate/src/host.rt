@@ -1,11 +1,26 @@
 // The call for hosts, in Rattle and in C.
+ghost use Rattle.std.specs.Prelude.{◌≡◌};
 ghost use Rattle.certificate.specs.Host.{CertifiedInto, CertifiedAs, HostAnswer};
 
 use crate::call::{CallFault, KeeperKind};
 use crate::certificate::certificate_into;
+use crate::kinds::Kinded;
 use clocks::Clocks;
 use locksets::Locksets;
 use shortcut::ShortCut;
+
+// The certificate of the trace over the keeper, which is of the kind that is asked for.
+fn certify_over<K: Kinded + Drop>(
+    trace: &[u8],
+    _kind: KeeperKind,
+    keeper: K,
+    out: &mut [u8],
+) -> Result<usize, CallFault>
+    requires { _kind ≡ K.kind }
+    ensures { CertifiedInto trace.now out.old out.new result }
+{
+    certificate_into(trace, keeper, out)
+}
 
 // Makes the certificate of the trace over a keeper of the kind, writes it to the front of the buffer and answers its length.
 // The buffer stays as it was where the text does not fit. No heap is used.
@@ -13,12 +28,14 @@ pub fn certify_into(trace: &[u8], kind: KeeperKind, out: &mut [u8]) -> Result<us
     ensures { CertifiedInto trace.now out.old out.new result }
 {
     match kind {
-        KeeperKind::Locksets => certificate_into(trace, Locksets::new(), out),
-        KeeperKind::Clocks => certificate_into(trace, Clocks::new(), out),
+        KeeperKind::Locksets => certify_over(trace, kind, Locksets::new(), out),
+        KeeperKind::Clocks => certify_over(trace, kind, Clocks::new(), out),
         KeeperKind::LayeredLocksets => {
-            certificate_into(trace, ShortCut::new(Locksets::new()), out)
+            certify_over(trace, kind, ShortCut::new(Locksets::new()), out)
         }
-        KeeperKind::LayeredClocks => certificate_into(trace, ShortCut::new(Clocks::new()), out),
+        KeeperKind::LayeredClocks => {
+            certify_over(trace, kind, ShortCut::new(Clocks::new()), out)
+        }
     }
 }
 

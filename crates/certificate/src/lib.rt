@@ -6,6 +6,7 @@ mod certificate;
 mod fault;
 mod finding;
 mod host;
+mod kinds;
 mod line;
 mod listing;
 mod run;

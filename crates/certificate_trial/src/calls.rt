@@ -9,7 +9,7 @@ use std::str::from_utf8;
 // What the buffer holds before a call.
 const BEFORE: u8 = 170;
 
-// More than the longest certificate has.
+// More than the longest certificate here has.
 pub(crate) const AMPLE: usize = 32_768;
 
 // A thread and what it does. An `Event` says the same; its fields' names would make the tables no plainer.
