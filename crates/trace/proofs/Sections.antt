@@ -22,9 +22,6 @@ pub record Sofar (bytes : List ℕ) (s : ℕ) (p q : Place) (old all : List Even
   pub items : all ≡ old ++ events
   pub onward : Onward bytes s p q events
 
-pub sofar_none : (bytes : List ℕ) (s : ℕ) (p : Place) (old : List Event) → Sofar bytes s p p old old
-sofar_none bytes s p old = record { events = []; items = sym (append-nil old); onward = λ ts o r. r }
-
 pub reads_more : (bytes : List ℕ) (p : Place) (s : ℕ) (e : Event) (ts : List (ℕ × Event)) (o : Option Refusal) → p.byte < length bytes → section_at bytes p.byte ≡ s → taken bytes p ≡ Ok e → Reads bytes (moved bytes p) ts o → Reads bytes p ((s, e) ∷ ts) o
 unfolding Reads
 reads_more bytes p s e ts o h i t r = (h, i, t, r)
