@@ -1,5 +1,6 @@
 // The keeper over clock vectors.
-ghost use Rattle.std.specs.Prelude.{◌≡◌, ℕ, ◌<◌, if◌then◌else◌, nat_eq};
+ghost use Rattle.std.specs.Prelude.{◌≡◌, ℕ, ◌<◌, if◌then◌else◌, nat_eq, OnErr};
+ghost use Rattle.keepers.specs.Meaning.{begun, forgotten, passed, begin_answer, forget_answer, pass_answer};
 ghost use Rattle.clocks.specs.Vectors.{heard_of};
 ghost use Rattle.clocks.specs.Kept.{clock_at, moved, clocks_mean, Running, Started};
 
@@ -61,6 +62,9 @@ impl Clocks {
 // field this would be no plainer: it stands in no contract here but by `live`, which the trait asks for.
 // One frame over any table would be no plainer: each call is a check, a write and a count, and a trait of
 // tables would carry as many laws as this interface.
+//
+// `lives`, `effect` and `answer` are the interface's clauses. Of a refused call that promises that the meaning
+// stays; here the value does, also before the first clear.
 impl Keeper for Clocks {
     ghost meaning = { clocks_mean };
 
@@ -72,7 +76,12 @@ impl Keeper for Clocks {
     }
 
     #[tactic(auto, using(keepers::proofs::Laws::begun_refused, crate::proofs::Means::runs_begun, crate::proofs::Means::means_begun))]
-    fn begin(&mut self, slot: usize, thread: u8) -> Result<(), KeeperFault> {
+    fn begin(&mut self, slot: usize, thread: u8) -> Result<(), KeeperFault>
+        ensures lives { Running self.old → Running self.new }
+        ensures effect { Running self.old → clocks_mean self.new ≡ begun (clocks_mean self.old) slot thread }
+        ensures answer { Running self.old → result ≡ begin_answer slot thread }
+        ensures unchanged { OnErr result (self.new ≡ self.old) }
+    {
         check_begin(slot, thread)?;
         let count = self.clocks[thread as usize].count(thread);
         self.epochs[slot] = Some(Epoch { thread, count });
@@ -80,14 +89,24 @@ impl Keeper for Clocks {
     }
 
     #[tactic(auto, using(keepers::proofs::Laws::forgotten_refused, crate::proofs::Means::runs_forgotten, crate::proofs::Means::means_forgotten))]
-    fn forget(&mut self, slot: usize) -> Result<(), KeeperFault> {
+    fn forget(&mut self, slot: usize) -> Result<(), KeeperFault>
+        ensures lives { Running self.old → Running self.new }
+        ensures effect { Running self.old → clocks_mean self.new ≡ forgotten (clocks_mean self.old) slot }
+        ensures answer { Running self.old → result ≡ forget_answer slot }
+        ensures unchanged { OnErr result (self.new ≡ self.old) }
+    {
         check_forget(slot)?;
         self.epochs[slot] = None;
         Ok(())
     }
 
     #[tactic(auto, using(crate::proofs::Means::pass_answered, crate::proofs::Means::pass_refused, crate::proofs::Means::runs_passed, crate::proofs::Means::means_passed))]
-    fn pass(&mut self, from: u8, to: u8) -> Result<(), KeeperFault> {
+    fn pass(&mut self, from: u8, to: u8) -> Result<(), KeeperFault>
+        ensures lives { Running self.old → Running self.new }
+        ensures effect { Running self.old → clocks_mean self.new ≡ passed (clocks_mean self.old) from to }
+        ensures answer { Running self.old → result ≡ pass_answer (clocks_mean self.old) from to }
+        ensures unchanged { OnErr result (self.new ≡ self.old) }
+    {
         check_pass(self.passes, from, to)?;
         self.hand_over(from, to);
         self.passes += 1;

@@ -197,6 +197,12 @@ begin_in_range slot thread done = elim (cases_lt slot 576) [
   | inr p ↦ absurd (answers_differ (begin_answer slot thread) tt OutOfRange done (begin_refused slot thread (λ r _. omega arith)))
 ]
 
+pub forget_in_range : (slot : ℕ) → forget_answer slot ≡ Ok tt → slot < 576
+forget_in_range slot done = elim (cases_lt slot 576) [
+  | inl p ↦ p
+  | inr p ↦ absurd (answers_differ (forget_answer slot) tt OutOfRange done (forget_refused slot p))
+]
+
 pub begun_refused : (m : Meaning) (slot thread : ℕ) (e : KeeperFault) → begin_answer slot thread ≡ Err e → begun m slot thread ≡ m
 begun_refused m slot thread e refused =
     begun_same m slot thread (λ p q. answers_differ (begin_answer slot thread) tt e (begin_taken slot thread p q) refused)

@@ -5,4 +5,3 @@ mod layer;
 mod owners;
 
 pub use layer::{ShortCut, layer_alike};
-pub use owners::OwnerTable;

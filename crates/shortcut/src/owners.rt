@@ -1,11 +1,11 @@
 // Which thread began each slot, as far as it is remembered.
-ghost use Rattle.std.specs.Prelude.{◌≡◌, ℕ, Some, None};
-ghost use Rattle.shortcut.specs.Owners.{owner_at, rewritten, no_owners};
+ghost use Rattle.std.specs.Prelude.{◌≡◌, Some, None};
+ghost use Rattle.shortcut.specs.Owners.{owner_at, Remembers, no_owners};
 
 use keepers::SLOTS;
 
 #[derive(Drop)]
-pub struct OwnerTable {
+pub(crate) struct OwnerTable {
     owners: [Option<u8>; SLOTS],
 }
 
@@ -28,7 +28,7 @@ impl OwnerTable {
     // Writes what is remembered of the slot, if it is in range. By index, since `get_mut` leaves a
     // proof nothing of the other owners.
     fn write(&mut self, slot: usize, owner: Option<u8>)
-        ensures { (s : ℕ) → owner_at self.new s ≡ rewritten self.old slot owner s }
+        ensures { Remembers self.old self.new slot owner }
     {
         if slot < SLOTS {
             self.owners[slot] = owner;
@@ -38,14 +38,14 @@ impl OwnerTable {
     // Remembers who began the slot, if it is in range. Two promises, this and `forget`, and one private
     // function does the work of both.
     pub fn remember(&mut self, slot: usize, thread: u8)
-        ensures { (s : ℕ) → owner_at self.new s ≡ rewritten self.old slot (Some thread) s }
+        ensures { Remembers self.old self.new slot (Some thread) }
     {
         self.write(slot, Some(thread));
     }
 
     // Remembers nobody for the slot.
     pub fn forget(&mut self, slot: usize)
-        ensures { (s : ℕ) → owner_at self.new s ≡ rewritten self.old slot None s }
+        ensures { Remembers self.old self.new slot None }
     {
         self.write(slot, None);
     }
