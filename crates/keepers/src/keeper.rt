@@ -11,6 +11,7 @@ use crate::fault::KeeperFault;
 
 // A type that implements this is lawful. Nothing is promised of a keeper that was never cleared, and
 // a layer may be made over such a one: so `live` stands in the clauses and in no keeper's type.
+// A refused call leaves the meaning as it was; what it leaves of the value, each keeper's own clauses say.
 pub trait Keeper {
     // the set of each slot, and the count of passes
     ghost meaning: { Self → Meaning };

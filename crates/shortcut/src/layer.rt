@@ -53,7 +53,8 @@ impl<K: Keeper> Keeper for ShortCut<K> {
     #[tactic(auto, using(crate::proofs::Agree::agree_begun))]
     fn begin(&mut self, slot: usize, thread: u8) -> Result<(), KeeperFault>
         ensures lives { ⟦<Self as Keeper>⟧.live self.old → ⟦<Self as Keeper>⟧.live self.new }
-        ensures effect { ⟦<Self as Keeper>⟧.live self.old → K.meaning self.new.below ≡ begun (K.meaning self.old.below) slot thread }
+        ensures effect { ⟦<Self as Keeper>⟧.live self.old
+            → K.meaning self.new.below ≡ begun (K.meaning self.old.below) slot thread }
         ensures answer { ⟦<Self as Keeper>⟧.live self.old → result ≡ begin_answer slot thread }
         ensures owners { OnOk result (Remembers self.old.owners self.new.owners slot (Some thread)) }
         ensures unchanged { OnErr result (self.new.owners ≡ self.old.owners) }
@@ -66,7 +67,8 @@ impl<K: Keeper> Keeper for ShortCut<K> {
     #[tactic(auto, using(crate::proofs::Agree::agree_forgotten))]
     fn forget(&mut self, slot: usize) -> Result<(), KeeperFault>
         ensures lives { ⟦<Self as Keeper>⟧.live self.old → ⟦<Self as Keeper>⟧.live self.new }
-        ensures effect { ⟦<Self as Keeper>⟧.live self.old → K.meaning self.new.below ≡ forgotten (K.meaning self.old.below) slot }
+        ensures effect { ⟦<Self as Keeper>⟧.live self.old
+            → K.meaning self.new.below ≡ forgotten (K.meaning self.old.below) slot }
         ensures answer { ⟦<Self as Keeper>⟧.live self.old → result ≡ forget_answer slot }
         ensures owners { OnOk result (Remembers self.old.owners self.new.owners slot None) }
         ensures unchanged { OnErr result (self.new.owners ≡ self.old.owners) }
@@ -80,7 +82,8 @@ impl<K: Keeper> Keeper for ShortCut<K> {
     #[tactic(auto, using(crate::proofs::Agree::agree_passed))]
     fn pass(&mut self, from: u8, to: u8) -> Result<(), KeeperFault>
         ensures lives { ⟦<Self as Keeper>⟧.live self.old → ⟦<Self as Keeper>⟧.live self.new }
-        ensures effect { ⟦<Self as Keeper>⟧.live self.old → K.meaning self.new.below ≡ passed (K.meaning self.old.below) from to }
+        ensures effect { ⟦<Self as Keeper>⟧.live self.old
+            → K.meaning self.new.below ≡ passed (K.meaning self.old.below) from to }
         ensures answer { ⟦<Self as Keeper>⟧.live self.old → result ≡ pass_answer (K.meaning self.old.below) from to }
         ensures owners { self.new.owners ≡ self.old.owners }
     {
