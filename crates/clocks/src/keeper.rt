@@ -63,8 +63,8 @@ impl Clocks {
 // One frame over any table would be no plainer: each call is a check, a write and a count, and a trait of
 // tables would carry as many laws as this interface.
 //
-// `lives`, `effect` and `answer` are the interface's clauses. Of a refused call that promises that the meaning
-// stays; here the value does, also before the first clear.
+// `lives`, `effect` and `answer` are the interface's clauses. The interface promises of a refused call that the
+// meaning stays; here the value does, also before the first clear.
 impl Keeper for Clocks {
     ghost meaning = { clocks_mean };
 

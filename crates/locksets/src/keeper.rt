@@ -38,8 +38,8 @@ impl Locksets {
 // would be no plainer: each call is a check, a write and a count, and a trait of tables would carry as
 // many laws as this interface.
 //
-// `effect` and `answer` are the interface's clauses, without a premise since it always lives. Of a refused call
-// that promises that the meaning stays; here the value does.
+// `effect` and `answer` are the interface's clauses, without its premise, since a lockset keeper always lives. The
+// interface promises of a refused call that the meaning stays; here the value does.
 impl Keeper for Locksets {
     ghost meaning = { locksets_mean };
 
