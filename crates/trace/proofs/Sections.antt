@@ -12,7 +12,7 @@ use Rattle.trace.specs.Layout.{count, body_end, opening, section_at}
 use Rattle.trace.specs.Reading.{origin, taken, moved, found}
 use Rattle.trace.specs.Refusals.{EventRefusal}
 use Rattle.trace.specs.Handing.{HandedAs}
-use Rattle.trace.specs.Whole.{Reads, in_section, tagged, Contains, Onward, Pushed, SectionRead, WholeRead}
+use Rattle.trace.specs.Whole.{Reads, in_section, tagged, IsTraceOf, Onward, Pushed, SectionRead, WholeRead}
 use Rattle.trace.proofs.Entries.{body_end_none}
 use Rattle.trace.proofs.Opened.{opened}
 
@@ -123,7 +123,7 @@ module _ {bytes : List ℕ} {s : ℕ} {q : Place} {counts : List ℕ} {events : 
   through_fails f r = (tagged 1 counts events ++ r.0, through.onward r.0 (Some f) r.1)
 
   -- the last section is read
-  pub through_all : opening bytes ≡ None → s ≡ count bytes + 1 → Contains bytes counts events
+  pub through_all : opening bytes ≡ None → s ≡ count bytes + 1 → IsTraceOf bytes counts events
   through_all e last =
       let all : s - 1 ≡ count bytes = omega arith in
       record {

@@ -1,7 +1,7 @@
 -- A whole file read: its events with their sections. Assumes nothing.
 --   Reads bytes p ts o       from the place p on the events ts are read, each with its section, up to the end or to the refusal in o
 --   tagged s counts events   the events with their sections, from section s on, so many events each
---   Contains bytes counts events   the file reads whole, as these events in these sections
+--   IsTraceOf bytes counts events   the file reads whole, as these events in these sections
 --   Refuses bytes f          reading the file comes to the refusal f
 use Rattle.std.specs.Prelude.{◌≡◌, ℕ, suc, ◌<◌, ◌≤◌, ◌⊎◌, List, [], ◌∷◌, ◌++◌, map, length, take, drop, Some, None, Ok, Err, vec_items, sum, Option, Result}
 use Rattle.events.specs.declared.Event.{Event}
@@ -29,7 +29,7 @@ unfoldable pub tagged : ℕ → List ℕ → List Event → List (ℕ × Event)
 tagged s [] events = []
 tagged s (c ∷ counts) events = in_section s (take c events) ++ tagged (suc s) counts (drop c events)
 
-pub record Contains (bytes counts : List ℕ) (events : List Event) : Type 0 where
+pub record IsTraceOf (bytes counts : List ℕ) (events : List Event) : Type 0 where
   pub opens : opening bytes ≡ None
   pub sections : length counts ≡ count bytes
   pub total : sum counts ≡ length events
@@ -56,6 +56,6 @@ SectionRead bytes s p q old all (Err Memory) = Unit {0}
 
 -- what reading a whole file answers; want of memory says nothing of the file
 abbrev pub WholeRead : List ℕ → Result Trace ReadError → Type 0
-WholeRead bytes (Ok t) = Contains bytes (vec_items t.counts) (vec_items t.events) × (file (vec_items t.counts) (vec_items t.events) ≡ bytes)
+WholeRead bytes (Ok t) = IsTraceOf bytes (vec_items t.counts) (vec_items t.events) × (file (vec_items t.counts) (vec_items t.events) ≡ bytes)
 WholeRead bytes (Err (Refused f)) = Refuses bytes f
 WholeRead bytes (Err Memory) = Unit {0}

@@ -5,7 +5,7 @@ use Rattle.std.proofs.lemmas.Result.{err_from_is_err_and}
 use Rattle.trace.specs.Layout.{count, body_end, opening}
 use Rattle.trace.specs.Reading.{origin, sections_or, inside}
 use Rattle.trace.specs.Refusals.{FirstRefusal}
-use Rattle.trace.specs.Whole.{Contains, SectionRead, WholeRead}
+use Rattle.trace.specs.Whole.{IsTraceOf, SectionRead, WholeRead}
 use Rattle.trace.proofs.Opened.{ends_ordered}
 use Rattle.trace.proofs.Steps.{entered_ok}
 use Rattle.trace.proofs.Rewrite.{rewritten}
@@ -83,11 +83,11 @@ returns c =
     let first = opens (goal.at.returns c).In_ok-sections in
     let inv = c.loop-section.invariant in
     let bytes = All-from_get_or (λ b. b < 256) bs 0 (λ i _. omega (arith, c.type_inv.bytes i)) in
-    let read : Contains bs (vec_items c.loop-section-test.counts) (vec_items c.loop-section-test.events) =
+    let read : IsTraceOf bs (vec_items c.loop-section-test.counts) (vec_items c.loop-section-test.events) =
     elim c.loop-section-test.branch [
       | else-loop-section-test w ↦
           let all = through_all inv.2 first.0 (omega (arith, first.1)) in
-          subst (λ l. Contains bs (vec_items c.loop-section-test.counts) (vec_items l)) (sym w.events-is) (subst (λ l. Contains bs (vec_items l) (vec_items c.loop-section.events)) (sym w.counts-is) all)
+          subst (λ l. IsTraceOf bs (vec_items c.loop-section-test.counts) (vec_items l)) (sym w.events-is) (subst (λ l. IsTraceOf bs (vec_items l) (vec_items c.loop-section.events)) (sym w.counts-is) all)
       | then-loop-section-test+in_ok-take_section+in_ok-push+else-section-sections w ↦
           let told = w.in_ok-take_section.ensures in
           let old = c.loop-section.events.ok.0 in
@@ -95,6 +95,6 @@ returns c =
           let pushed = chosen _ _ _ _ w.push.ensures.items (ap is_ok w.in_ok-push.was) in
           let more = through_more inv.2 _ _ _ _ _ _ inv.0 told.section (omega (arith, w.len-before.ensures, w.len.ensures)) pushed in
           let all = through_all more first.0 (omega (arith, first.1)) in
-          subst (λ l. Contains bs (vec_items c.loop-section-test.counts) (vec_items l)) (sym w.events-is) (subst (λ l. Contains bs (vec_items l) (vec_items w.take_section.new.events)) (sym w.counts-is) all)
+          subst (λ l. IsTraceOf bs (vec_items c.loop-section-test.counts) (vec_items l)) (sym w.events-is) (subst (λ l. IsTraceOf bs (vec_items l) (vec_items w.take_section.new.events)) (sym w.counts-is) all)
     ] in
     (read, rewritten bs (vec_items c.loop-section-test.counts) (vec_items c.loop-section-test.events) bytes read)
