@@ -100,7 +100,7 @@ part_rest : (bs : List ℕ) (i k j : ℕ) → j ≡ i + k → take k (drop i bs)
 part_rest bs i k j e = ap (λ m. take k (drop i bs) ++ drop m bs) e ∙ ap (λ l. take k (drop i bs) ++ l) (sym (drop-drop k i bs)) ∙ take-append-drop k (drop i bs)
 
 -- sections are numbered upwards
-tags_after : (m s : ℕ) (counts : List ℕ) (es : List Event) → m < s → AllByRecursion (λ t. m < t.0) (tagged s counts es)
+pub tags_after : (m s : ℕ) (counts : List ℕ) (es : List Event) → m < s → AllByRecursion (λ t. m < t.0) (tagged s counts es)
 unfolding tagged
 tags_after m s [] es h = tt
 tags_after m s (c ∷ counts) es h =
@@ -110,7 +110,7 @@ tags_after m s (c ∷ counts) es h =
     each m s [] h = tt
     each m s (e ∷ es) h = (h, each m s es h)
 
-untagged : (s : ℕ) (counts : List ℕ) (es : List Event) → sum counts ≡ length es → map (λ t. t.1) (tagged s counts es) ≡ es
+pub untagged : (s : ℕ) (counts : List ℕ) (es : List Event) → sum counts ≡ length es → map (λ t. t.1) (tagged s counts es) ≡ es
 unfolding tagged
 untagged s [] es e = sym (nil_from_length es (sym e))
 untagged s (c ∷ counts) es e =
