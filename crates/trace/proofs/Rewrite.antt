@@ -15,7 +15,7 @@ use Rattle.trace.specs.Codec.{operands, event_bytes, size, simple, set_at, actio
 use Rattle.trace.specs.Layout.{count, entry_offset, entry_length, body_end, section_at}
 use Rattle.trace.specs.Reading.{origin, moved}
 use Rattle.trace.specs.File.{body, contents, file}
-use Rattle.trace.specs.Whole.{Reads, in_section, tagged, Contains}
+use Rattle.trace.specs.Whole.{Reads, in_section, tagged, IsTraceOf}
 use Rattle.trace.proofs.Numbers.{bytes_again}
 use Rattle.trace.proofs.Events.{length_event}
 use Rattle.trace.proofs.Entries.{body_end_none, body_end_more}
@@ -100,7 +100,7 @@ part_rest : (bs : List ℕ) (i k j : ℕ) → j ≡ i + k → take k (drop i bs)
 part_rest bs i k j e = ap (λ m. take k (drop i bs) ++ drop m bs) e ∙ ap (λ l. take k (drop i bs) ++ l) (sym (drop-drop k i bs)) ∙ take-append-drop k (drop i bs)
 
 -- sections are numbered upwards
-tags_after : (m s : ℕ) (counts : List ℕ) (es : List Event) → m < s → AllByRecursion (λ t. m < t.0) (tagged s counts es)
+pub tags_after : (m s : ℕ) (counts : List ℕ) (es : List Event) → m < s → AllByRecursion (λ t. m < t.0) (tagged s counts es)
 unfolding tagged
 tags_after m s [] es h = tt
 tags_after m s (c ∷ counts) es h =
@@ -110,7 +110,7 @@ tags_after m s (c ∷ counts) es h =
     each m s [] h = tt
     each m s (e ∷ es) h = (h, each m s es h)
 
-untagged : (s : ℕ) (counts : List ℕ) (es : List Event) → sum counts ≡ length es → map (λ t. t.1) (tagged s counts es) ≡ es
+pub untagged : (s : ℕ) (counts : List ℕ) (es : List Event) → sum counts ≡ length es → map (λ t. t.1) (tagged s counts es) ≡ es
 unfolding tagged
 untagged s [] es e = sym (nil_from_length es (sym e))
 untagged s (c ∷ counts) es e =
@@ -205,7 +205,7 @@ module _ (bs : List ℕ) (all : Bytes bs) (opens : Opened bs) where
       ∙ ap (λ m. take m (drop (4 + 8 * s) bs)) (sym whole)
 
 -- a file that reads whole, written again, is the same bytes
-pub rewritten : (bs counts : List ℕ) (events : List Event) → Bytes bs → Contains bs counts events → file counts events ≡ bs
+pub rewritten : (bs counts : List ℕ) (events : List Event) → Bytes bs → IsTraceOf bs counts events → file counts events ≡ bs
 unfolding file
 rewritten bs counts events all holds =
     let opens = opened bs holds.opens in
