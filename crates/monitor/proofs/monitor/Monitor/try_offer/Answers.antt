@@ -9,7 +9,11 @@ returns-in_err-decision-clause-answer g c rec stands =
     rw (p.1, p.2) (judged_from stands c.args.event _ _ (c.in_err-decision.ensures rec stands) stands)
 
 pub returns-in-Accepted-clause-answer : goal.returns-in-Accepted-clause-answer
-returns-in-Accepted-clause-answer g c rec stands = ?
+returns-in-Accepted-clause-answer g c rec stands =
+    let judged = rw c.in-Accepted.is at (c.in_ok-decision.ensures rec stands) in
+    judged_from stands c.args.event _ _ judged (c.accept.ensures.stands rec stands (sym judged))
 
 pub returns-in_default-clause-answer : goal.returns-in_default-clause-answer
-returns-in_default-clause-answer g c rec stands = ?
+returns-in_default-clause-answer g c rec stands =
+    let judged = rw c.in_default.is at (c.in_ok-decision.ensures rec stands) in
+    rw c.in_default.is (judged_from stands c.args.event _ _ judged stands)
