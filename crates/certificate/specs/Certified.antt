@@ -13,7 +13,7 @@ use Rattle.std.specs.Prelude.{◌≡◌, ℕ, ◌<◌, ◌≤◌, ◌⊎◌, Lis
 use Rattle.events.specs.declared.Event.{Event}
 use Rattle.trace.specs.Reading.{outside}
 use Rattle.trace.specs.Whole.{IsTraceOf}
-use Rattle.monitor.specs.Promise.{Sound}
+use Rattle.monitor.specs.Sound.{Sound}
 use Rattle.certificate.specs.declared.fault.Fault.{Fault}
 use Rattle.certificate.specs.declared.text.TheConstants.{LONGEST_TEXT}
 use Rattle.certificate.specs.Running.{Outcome, Runs}

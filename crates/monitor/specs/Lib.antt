@@ -1,5 +1,6 @@
 pub mod Answers
 pub mod Stands
+pub mod Sound
 pub mod Offers
 pub mod Slips
 pub mod Promise
