@@ -26,19 +26,6 @@ made_fits Clocks bytes t made = made.certifies.fits
 made_fits LayeredLocksets bytes t made = made.certifies.fits
 made_fits LayeredClocks bytes t made = made.certifies.fits
 
--- the kinds have the numbers 1 to 4
-kinds_within : (kind : KeeperKind) → (1 ≤ kind_number kind) × (kind_number kind ≤ 4)
-kinds_within Locksets = (omega arith, omega arith)
-kinds_within Clocks = (omega arith, omega arith)
-kinds_within LayeredLocksets = (omega arith, omega arith)
-kinds_within LayeredClocks = (omega arith, omega arith)
-
-no_kind_below : (n : ℕ) → n < 1 → (kind : KeeperKind) → n ≢ kind_number kind
-no_kind_below n low kind is = let within = kinds_within kind in omega arith
-
-no_kind_above : (n : ℕ) → 4 < n → (kind : KeeperKind) → n ≢ kind_number kind
-no_kind_above n high kind is = let within = kinds_within kind in omega arith
-
 module _ (bytes : List ℕ) (number : ℕ) (out out' : List ℕ) where
   abbrev Answers : KeeperKind → ℤ → Type 0
   Answers kind z = (t : List ℕ) × MadeBy kind bytes t × Written t out out' z
@@ -54,8 +41,7 @@ module _ (bytes : List ℕ) (number : ℕ) (out out' : List ℕ) where
   host_length told room call = record {
     known = λ kind is. known_length kind told room (call.known kind is);
     room = λ kind is _. (told.length, length_is kind told room (call.known kind is));
-    zero_kind = λ low. let none = (call.unknown (no_kind_below number low)).0 in absurd (cc);
-    high_kind = λ high. let none = (call.unknown (no_kind_above number high)).0 in absurd (cc);
+    unknown = λ none. let fault = (call.unknown none).0 in absurd (cc);
   }
 
   known_fault : (kind : KeeperKind) (f : CallFault) → CertifiedInto (MadeBy kind bytes) out out' (Err f) → Answers kind (fault_answer f)
@@ -71,6 +57,5 @@ module _ (bytes : List ℕ) (number : ℕ) (out out' : List ℕ) where
   host_fault f z is call = subst (HostAnswer bytes number out out') (numbered f ∙ ap (λ x. to_z w64 (of_z w64 x)) (sym is)) (record {
     known = λ kind named. known_fault kind f (call.known kind named);
     room = λ kind named room. absurd (no_fault (MadeBy kind bytes) (made_fits kind bytes) out out' f (call.known kind named) room);
-    zero_kind = λ low. let told = call.unknown (no_kind_below number low) in let fault : f ≡ NoSuchKind = cc in (ap fault_answer fault, told.1);
-    high_kind = λ high. let told = call.unknown (no_kind_above number high) in let fault : f ≡ NoSuchKind = cc in (ap fault_answer fault, told.1);
+    unknown = λ none. let told = call.unknown none in let fault : f ≡ NoSuchKind = cc in (ap fault_answer fault, told.1);
   })

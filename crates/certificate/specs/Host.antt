@@ -43,5 +43,4 @@ pub record HostAnswer (bytes : List ℕ) (number : ℕ) (out out' : List ℕ) (r
   pub known : (kind : KeeperKind) → number ≡ kind_number kind → (t : List ℕ) × MadeBy kind bytes t × Written t out out' r
   -- no certificate is too long for so much room, and so there is a length
   pub room : (kind : KeeperKind) → number ≡ kind_number kind → LONGEST_TEXT ≤ length out → (n : ℕ) × (r ≡ pos n)
-  pub zero_kind : number < 1 → (r ≡ no_such_kind) × (out' ≡ out)
-  pub high_kind : 4 < number → (r ≡ no_such_kind) × (out' ≡ out)
+  pub unknown : ((kind : KeeperKind) → number ≢ kind_number kind) → (r ≡ no_such_kind) × (out' ≡ out)
