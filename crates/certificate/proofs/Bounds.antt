@@ -1,12 +1,10 @@
 -- How long a certificate can be. Assumes nothing.
 use Rattle.std.proofs.Common.{◌≡◌, ℕ, ◌+◌, ◌*◌, ◌^◌, ◌<◌, ◌≤◌, ◌⊎◌, inl, inr, List, [], ◌∷◌, ◌++◌, length, get_or, codes, decimal, Some, None, Option, sym, refl, ap, ◌∙◌, subst, ⊎_elim, arith}
-use Rattle.std.proofs.lemmas.Bool.{cases_lt}
 use Rattle.std.proofs.lemmas.List.{length-append}
 use Rattle.std.proofs.lemmas.Fmt.{length-decimal-le}
 use Rattle.std.specs.List.{AllByRecursion}
 use Rattle.events.specs.declared.Event.{Event}
 use Rattle.order.specs.Judgement.{Answer, accepted, refused, declined, judge, recorded}
-use Rattle.order.specs.Verdicts.{Right}
 use Rattle.order.proofs.Faults.{place_range}
 use Rattle.order.proofs.Judgement.{race_touches}
 use Rattle.order.proofs.Options.{option_cases}
@@ -15,16 +13,13 @@ use Rattle.trace.specs.declared.fault.TraceFault.TheVariants.{TooLong, Truncated
 use Rattle.trace.specs.declared.fault.Refusal.{Refusal}
 use Rattle.trace.specs.declared.fault.Site.{Site}
 use Rattle.trace.specs.declared.place.Place.{Place}
-use Rattle.trace.specs.Numbers.{number}
 use Rattle.trace.specs.Layout.{at_start, opening}
 use Rattle.trace.specs.Reading.{entered, inside, outside, after}
 use Rattle.trace.specs.Refusals.{FirstRefusal, too_long, header_cut, other_edition, many_sections, contents_cut, wrong_entry, left_over, Opens, EventSite}
 use Rattle.trace.proofs.Answered.{inside_again, next_event, some_after}
-use Rattle.trace.proofs.Opened.{Opened, opened, size_some}
+use Rattle.trace.proofs.Opened.{opened, size_some}
 use Rattle.trace.proofs.Refusals.{first_refusal}
-use Rattle.roster.specs.declared.fault.RuleFault.{RuleFault}
 use Rattle.roster.specs.declared.fault.RuleFault.TheVariants.{NoSuchThread, NoSuchThing, NotRunning, ForkedBefore, JoinsAmiss, LockHeld, LockNotHeld, JoinedHolds, RecordFull}
-use Rattle.roster.specs.Numbers.{fault_number}
 use Rattle.certificate.specs.declared.fault.RunFault.TheVariants.{TooManyFindings}
 use Rattle.certificate.specs.declared.fault.Cause.{Cause}
 use Rattle.certificate.specs.declared.fault.Cause.TheVariants.{Trace, Monitor, Run}
@@ -66,7 +61,7 @@ finding_fits f small =
     let place = small.place in
     let witness = small.witness in
     let long : length (finding_text f) ≤ 34 =
-        field_fits (codes "event ") 5 23 f.event _ (omega arith) (omega arith) (omega arith) (field_fits (codes " place ") 2 14 f.place _ (omega arith) (omega arith) (omega arith) (ends_fit (codes " witness ") 5 f.witness (omega arith) (omega arith) (omega arith))) in
+    field_fits (codes "event ") 5 23 f.event _ (omega arith) (omega arith) (omega arith) (field_fits (codes " place ") 2 14 f.place _ (omega arith) (omega arith) (omega arith) (ends_fit (codes " witness ") 5 f.witness (omega arith) (omega arith) (omega arith))) in
     let feed = length-append (finding_text f) (10 ∷ []) in
     omega arith
 

@@ -1,5 +1,5 @@
 -- What the call for C answers, from what the call in Rattle does. Assumes nothing.
-use Rattle.std.proofs.Common.{◌≡◌, ◌≢◌, ℕ, ◌^◌, ◌<◌, ◌≤◌, List, length, IsOk, Ok, Err, ℤ, pos, to_z, of_z, w64, Result, sym, refl, ap, ◌∙◌, subst, arith}
+use Rattle.std.proofs.Common.{◌≡◌, ℕ, ◌^◌, ◌<◌, ◌≤◌, List, length, IsOk, Ok, Err, ℤ, pos, to_z, of_z, w64, Result, sym, refl, ap, ◌∙◌, subst, arith}
 use Rattle.std.proofs.lemmas.Int.{to_z_pos}
 use Rattle.certificate.specs.declared.call.CallFault.{CallFault}
 use Rattle.certificate.specs.declared.call.CallFault.TheVariants.{NoSuchKind, NoRoom}
@@ -7,9 +7,9 @@ use Rattle.certificate.specs.declared.call.KeeperKind.{KeeperKind}
 use Rattle.certificate.specs.declared.call.KeeperKind.TheVariants.{Locksets, Clocks, LayeredLocksets, LayeredClocks}
 use Rattle.certificate.specs.declared.call.Summary.{Summary}
 use Rattle.certificate.specs.declared.text.TheConstants.{LONGEST_TEXT}
-use Rattle.certificate.specs.Call.{kind_number, fault_answer}
+use Rattle.certificate.specs.Call.{fault_answer}
 use Rattle.certificate.specs.MadeBy.{MadeBy}
-use Rattle.certificate.specs.Host.{Placed, CertifiedInto, CertifiedAs, Written, HostAnswer}
+use Rattle.certificate.specs.Host.{CertifiedInto, CertifiedAs, Written, HostAnswer}
 
 -- a text that fits its buffer is placed
 module _ (Made : List ℕ → Type 0) (fits : (t : List ℕ) → Made t → length t ≤ LONGEST_TEXT) (out out' : List ℕ) where

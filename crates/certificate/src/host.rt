@@ -12,11 +12,7 @@ use shortcut::ShortCut;
 
 // Makes the certificate of the trace over a keeper of the kind, writes it to the front of the buffer and tells its length and
 // how it ends. The buffer stays as it was where the text does not fit. No heap is used.
-pub fn certify_into(
-    trace: &[u8],
-    kind: KeeperKind,
-    out: &mut [u8],
-) -> Result<Summary, CallFault>
+pub fn certify_into(trace: &[u8], kind: KeeperKind, out: &mut [u8]) -> Result<Summary, CallFault>
     ensures made { CertifiedInto (MadeBy kind trace.now) out.old out.new result }
     ensures room { LONGEST_TEXT ≤ length out.old → IsOk result }
 {
@@ -26,9 +22,7 @@ pub fn certify_into(
         KeeperKind::LayeredLocksets => {
             certificate_into(trace, ShortCut::new(Locksets::new()), out)
         }
-        KeeperKind::LayeredClocks => {
-            certificate_into(trace, ShortCut::new(Clocks::new()), out)
-        }
+        KeeperKind::LayeredClocks => { certificate_into(trace, ShortCut::new(Clocks::new()), out) }
     }
 }
 

@@ -93,7 +93,10 @@ fn put_text(certificate: &Certificate<'_>, out: &mut [u8])
 }
 
 // Writes the text to the front of the buffer, if it fits. It asks for no memory, as printing a certificate may.
-pub(crate) fn write_text(certificate: &Certificate<'_>, out: &mut [u8]) -> Result<Summary, CallFault>
+pub(crate) fn write_text(
+    certificate: &Certificate<'_>,
+    out: &mut [u8],
+) -> Result<Summary, CallFault>
     requires { length certificate.now.findings.now ≤ 1000 }
     ensures { Placed (whole_text certificate.now.accepted certificate.now.findings.now certificate.now.end) out.old out.new result }
 {
