@@ -14,7 +14,7 @@ use Rattle.trace.specs.declared.fault.Refusal.{Refusal}
 use Rattle.trace.specs.declared.fault.Site.{Site}
 use Rattle.trace.specs.declared.place.Place.{Place}
 use Rattle.trace.specs.Layout.{at_start, opening}
-use Rattle.trace.specs.Reading.{entered, inside, outside, after}
+use Rattle.trace.specs.Reading.{inside, outside, after}
 use Rattle.trace.specs.Refusals.{FirstRefusal, too_long, header_cut, other_edition, many_sections, contents_cut, wrong_entry, left_over, Opens, EventSite}
 use Rattle.trace.proofs.Answered.{inside_again, next_event, some_after}
 use Rattle.trace.proofs.Opened.{opened, size_some}
@@ -30,6 +30,7 @@ use Rattle.certificate.specs.Numbers.{number_of}
 use Rattle.certificate.specs.Running.{recorded_all, listed, Passes, Outcome, Runs}
 use Rattle.certificate.specs.Sentence.{NamesRace, EndsBy, Sentence}
 use Rattle.certificate.specs.Texts.{finding_text, fault_text, findings_text, first_text, last_text, text}
+use Rattle.certificate.proofs.LastLines.{entered_none}
 
 -- a word, a number of at most k digits, and m bytes more at most
 field_fits : (word : List ℕ) (k m n : ℕ) (rest : List ℕ) → 0 < k → n < 10 ^ k → n < 2 ^ 64 → length rest ≤ m → length (word ++ (decimal n ++ rest)) ≤ length word + (k + m)
@@ -213,14 +214,10 @@ near_by bytes o at (Trace k) few (inr event) = near_event bytes o.place at few e
 near_by bytes o at (Monitor f) few h = near_event bytes o.place at few h.0
 near_by bytes o at (Run f) few h = near_event bytes o.place at few h.0
 
-start_none : (bytes : List ℕ) (o : Option Refusal) → (entered bytes o outside).events ≡ 0
-start_none bytes (Some f) = refl
-start_none bytes None = refl
-
 pub fits : (bytes : List ℕ) (events : List Event) (o : Outcome) → Runs bytes outside [] [] events o → Sentence bytes outside [] events o → length (text (length o.recorded_as) o.findings o.end) ≤ LONGEST_TEXT
 unfolding text
 fits bytes events o runs says =
-    let none = start_none bytes (opening bytes) in
+    let none = entered_none bytes (opening bytes) in
     let many = few_events bytes (inside bytes outside).byte (length events) (read_within bytes outside [] [] events o runs) in
     let listed = few_findings bytes outside [] [] events o (omega arith) runs in
     let counted = says.counted in

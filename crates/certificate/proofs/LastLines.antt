@@ -166,7 +166,7 @@ fault_end fs (Some f) l e = (f, refl, refl)
 fault_end [] None l e = absurd (let z : ◌≡◌ {A = ℕ} 99 114 = ap letter e in omega arith)
 fault_end (f ∷ fs) None l e = absurd (let z : ◌≡◌ {A = ℕ} 110 114 = ap letter e in omega arith)
 
-entered_none : (bytes : List ℕ) (o : Option Refusal) → (entered bytes o outside).events ≡ 0
+pub entered_none : (bytes : List ℕ) (o : Option Refusal) → (entered bytes o outside).events ≡ 0
 entered_none bytes (Some f) = refl
 entered_none bytes None = refl
 
