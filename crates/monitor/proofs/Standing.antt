@@ -107,13 +107,3 @@ module _ {K : Type 0} {its : Ghosts K} {rec : List Event} {m : Monitor K its} (s
         lawful = accepted_lawful rec e stands.lawful stands.free serial took;
         free = accepted_free rec e stands.lawful stands.free serial took;
       }
-
--- what the slots tell answers the question
-pub asked_told : {K : Type 0} {its : Ghosts K} {rec : List Event} {m : Monitor K its} → Stands rec m → (p t slot : ℕ) (a : Access) (o : Option Told) → slot ≡ slot_of a → no_reader a ≡ false → p < 64 → slot < 9 → t < 8 → told_as o ≡ cond (ltb p 64 && (ltb slot 9 && ltb t 8)) (cell_told (serial_at m.slots.serials p slot) (set_at (its.meaning m.slots.keeper) p slot) t) None → ◌≡◌ {A = Result (Option questions.Told) ℕ} (Ok (told_as o)) (asked rec p a t)
-asked_told {K} {its} {rec} {m} stands p t slot a o is reader place in-slot thread told =
-    let range = and_from (ltb p 64) (ltb slot 9 && ltb t 8) (lt-ltb p 64 place) (and_from (ltb slot 9) (ltb t 8) (lt-ltb slot 9 in-slot) (lt-ltb t 8 thread)) in
-    let cell = stands.cells p slot place in-slot in
-    let answer = told ∙ cond-true (ltb p 64 && (ltb slot 9 && ltb t 8)) _ _ range ∙ sym (told_by_cell rec p slot _ _ cell t thread) ∙ ap (λ k. questions.slot_told rec p k t) is in
-    let who = or_from (no_reader a) (leb 8 t) reader (lt-leb 8 t thread) in
-    let where' = lt-leb 64 p place in
-    ap Ok answer ∙ sym (cond-false (no_reader a || leb 8 t) _ _ who ∙ cond-false (leb 64 p) _ _ where')
