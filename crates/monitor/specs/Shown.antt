@@ -1,5 +1,5 @@
 -- When the answer to a question is right, in the rules' words. Assumes nothing.
---   AskedOf rec p a i    the access at i is the one that is asked of: p's latest write, or a thread's latest read, if newer
+--   AskedOf rec p a i    the access at i is the one asked of: p's latest write, or a thread's latest read, if newer
 --   Tells rec q t        what t tells is so of the access that q asks of
 --   RightlyTold rec q o  what o tells is so; it tells nothing just where there is no such access
 use Rattle.std.specs.Prelude.{◌≡◌, ℕ, ◌+◌, ◌<◌, List, Some, None, Option, Decides}
