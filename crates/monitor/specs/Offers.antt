@@ -14,7 +14,8 @@ use Rattle.monitor.specs.declared.monitor.Monitor.{Monitor}
 use Rattle.monitor.specs.Sound.{RightVerdict, Sound}
 use Rattle.monitor.specs.Stands.{Stands}
 
-pub record Judged {K : Type 0} {its : Ghosts K} (rec : List Event) (e : Event) (a : Answer) (m' : Monitor K its) : Type 0 where
+pub record Judged {K : Type 0} {its : Ghosts K}
+    (rec : List Event) (e : Event) (a : Answer) (m' : Monitor K its) : Type 0 where
   pub answer : RightVerdict rec e a
   pub stands : Stands (recorded rec e a) m'
   pub sound : Sound (recorded rec e a)

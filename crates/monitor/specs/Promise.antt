@@ -4,7 +4,7 @@
 --   RightReply rec c r   the reply to the call c, made after the record, is right
 --   AnsweredAs cs rs x   the calls that a worked example lists are answered as it lists
 --   Promise rec cs rs    each reply is right, and after each call the record is sound
-use Rattle.std.specs.Prelude.{◌≡◌, List, [], ◌∷◌, map, length}
+use Rattle.std.specs.Prelude.{◌≡◌, List, [], ◌∷◌, map, length, IfOk}
 use Rattle.events.specs.declared.Event.{Event}
 use Rattle.order.specs.Examples.{Example}
 use Rattle.order.specs.Judgement.{Answer, recorded}
@@ -13,6 +13,7 @@ use Rattle.monitor.specs.declared.session.Call.TheVariants.{Offer, Commit, Count
 use Rattle.monitor.specs.declared.session.Reply.{Reply}
 use Rattle.monitor.specs.declared.session.Reply.TheVariants.{Judged, Counted, Shown}
 use Rattle.monitor.specs.Answers.{told, asked, told_of}
+use Rattle.monitor.specs.Shown.{RightlyTold}
 use Rattle.monitor.specs.Slips.{commit_of}
 use Rattle.monitor.specs.Sound.{RightVerdict, Sound}
 
@@ -42,7 +43,7 @@ RightReply rec (Commit s) (Shown x) = ⊥
 RightReply rec Count (Counted n) = n ≡ length rec
 RightReply rec Count (Judged v) = ⊥
 RightReply rec Count (Shown x) = ⊥
-RightReply rec (Ask q) (Shown x) = told_of x ≡ asked rec q.place q.access q.thread
+RightReply rec (Ask q) (Shown x) = (told_of x ≡ asked rec q.place q.access q.thread) × IfOk x (λ o. RightlyTold rec q o)
 RightReply rec (Ask q) (Judged v) = ⊥
 RightReply rec (Ask q) (Counted n) = ⊥
 

@@ -1,8 +1,9 @@
 // What a monitor is asked: how many events it accepted, how many passes they made, and what it knows of an access.
-ghost use Rattle.std.specs.Prelude.{◌≡◌, List, length};
+ghost use Rattle.std.specs.Prelude.{◌≡◌, List, length, IfOk};
 ghost use Rattle.events.specs.declared.Event.{Event as AnEvent};
 ghost use Rattle.order.specs.Work.{passes_by};
 ghost use Rattle.monitor.specs.Answers.{asked, told_of};
+ghost use Rattle.monitor.specs.Shown.{RightlyTold};
 ghost use Rattle.monitor.specs.Stands.{Stands};
 
 use crate::monitor::Monitor;
@@ -29,7 +30,8 @@ impl<K: Keeper> Monitor<K> {
 
     // Whether the access that is asked about is there; and then its serial, and whether it has reached the thread.
     pub fn ask(&self, question: Question) -> Result<Option<Told>, RuleFault>
-        ensures { (rec : List AnEvent) → Stands rec self.now → told_of result ≡ asked rec question.place question.access question.thread }
+        ensures answer { (rec : List AnEvent) → Stands rec self.now → told_of result ≡ asked rec question.place question.access question.thread }
+        ensures right { IfOk result (λ told. (rec : List AnEvent) → Stands rec self.now → RightlyTold rec question told) }
     {
         let Question {
             place,
