@@ -174,7 +174,7 @@ entered_none bytes None = refl
 file_read : (bytes : List ℕ) (events : List Event) → ReadOut bytes outside events → (counts : List ℕ) × IsTraceOf bytes counts events
 file_read bytes events out =
     let first : inside bytes outside ≡ origin bytes = ap (λ o. entered bytes o outside) out.opens in
-    trace_of_reading bytes out.sectioned events out.opens (subst (λ p. Reads bytes p out.sectioned None) first out.reads) out.events
+    trace_of_reading bytes out.opens out.sectioned events (subst (λ p. Reads bytes p out.sectioned None) first out.reads) out.events
 
 module _ (bytes t : List ℕ) (events : List Event) (o : Outcome) (says : Sentence bytes outside [] events o) (is : t ≡ text (length o.recorded_as) o.findings o.end) where
   has_last : LastLine t (last_line o.findings o.end)

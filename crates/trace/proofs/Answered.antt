@@ -6,7 +6,7 @@ use Rattle.trace.specs.declared.fault.Refusal.{Refusal}
 use Rattle.trace.specs.declared.place.Place.{Place}
 use Rattle.trace.specs.Codec.{event_bytes}
 use Rattle.trace.specs.Layout.{count, opening, section_at}
-use Rattle.trace.specs.Reading.{entered, inside, taken, moved, kept, found, onward, behind, unless_refused, next, after, IsBetweenEvents}
+use Rattle.trace.specs.Reading.{entered, inside, taken, moved, kept, some_event, onward, behind, unless_refused, next, after, IsBetweenEvents}
 use Rattle.trace.specs.Refusals.{FirstRefusal, EventRefusal}
 use Rattle.trace.specs.Answers.{TakenEvent, Answers}
 use Rattle.trace.proofs.Entries.{body_end_none}
@@ -45,17 +45,17 @@ answers_open : (o : Option Refusal) (x : Result (Option Event) Refusal) (y : Opt
 answers_open (Some f) x y h = absurd (let z : ◌≡◌ {A = ℕ} 0 1 = cc in omega arith)
 answers_open None x y h = (refl, h)
 
-found_event : (b : Bool) (r : Result Event Refusal) (e : Event) → cond b (found r) (Ok None) ≡ Ok (Some e) → (b ≡ true) × (r ≡ Ok e)
+found_event : (b : Bool) (r : Result Event Refusal) (e : Event) → cond b (some_event r) (Ok None) ≡ Ok (Some e) → (b ≡ true) × (r ≡ Ok e)
 found_event true (Ok x) e h = (refl, cc)
 found_event true (Err f) e h = absurd (let z : ◌≡◌ {A = ℕ} 0 1 = cc in omega arith)
 found_event false r e h = absurd (let z : ◌≡◌ {A = ℕ} 0 1 = cc in omega arith)
 
-found_refusal : (b : Bool) (r : Result Event Refusal) (f : Refusal) → cond b (found r) (Ok None) ≡ Err f → (b ≡ true) × (r ≡ Err f)
+found_refusal : (b : Bool) (r : Result Event Refusal) (f : Refusal) → cond b (some_event r) (Ok None) ≡ Err f → (b ≡ true) × (r ≡ Err f)
 found_refusal true (Ok x) f h = absurd (let z : ◌≡◌ {A = ℕ} 0 1 = cc in omega arith)
 found_refusal true (Err g) f h = (refl, cc)
 found_refusal false r f h = absurd (let z : ◌≡◌ {A = ℕ} 0 1 = cc in omega arith)
 
-found_none : (b : Bool) (r : Result Event Refusal) → cond b (found r) (Ok None) ≡ Ok None → b ≡ false
+found_none : (b : Bool) (r : Result Event Refusal) → cond b (some_event r) (Ok None) ≡ Ok None → b ≡ false
 found_none true (Ok x) h = absurd (let z : ◌≡◌ {A = ℕ} 0 1 = cc in omega arith)
 found_none true (Err g) h = absurd (let z : ◌≡◌ {A = ℕ} 0 1 = cc in omega arith)
 found_none false r h = refl

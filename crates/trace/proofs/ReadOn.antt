@@ -1,5 +1,5 @@
 -- Reading on, event by event, gives just what stands in the file. Assumes nothing.
-use Rattle.std.proofs.Common.{◌≡◌, ℕ, ◌+◌, ◌-◌, ◌*◌, ◌<◌, ◌≤◌, ltb, leb, ◌⊎◌, ◌↔◌, List, [], ◌∷◌, length, get_or, Some, None, Ok, Err, sum, Option, Result, sym, refl, ap, ◌∙◌, subst, inl, inr, arith}
+use Rattle.std.proofs.Common.{◌≡◌, ℕ, ◌+◌, ◌-◌, ◌*◌, ◌<◌, ◌≤◌, ◌⊎◌, ◌↔◌, List, [], ◌∷◌, length, get_or, Some, None, Ok, Err, sum, Option, sym, refl, ap, ◌∙◌, subst, inl, inr, arith}
 use Rattle.std.proofs.lemmas.Bool.{cond-true, cond-false, le-leb, lt-leb, lt-ltb, le-ltb}
 use Rattle.std.proofs.lemmas.List.{nil_from_length}
 use Rattle.events.specs.declared.Event.{Event}
@@ -8,12 +8,12 @@ use Rattle.trace.specs.declared.fault.Site.{Site}
 use Rattle.trace.specs.declared.fault.Refusal.{Refusal}
 use Rattle.trace.specs.declared.place.Place.{Place}
 use Rattle.trace.specs.Codec.{size, event_at}
-use Rattle.trace.specs.Layout.{count, body_end, opening, section_at}
-use Rattle.trace.specs.Reading.{site, placed, origin, outside, entered, inside, taken, moved, found, unless_refused, onward, behind, next, after}
+use Rattle.trace.specs.Layout.{count, body_end, opening}
+use Rattle.trace.specs.Reading.{site, placed, origin, outside, entered, inside, taken, moved, some_event, unless_refused, onward, behind, next, after}
 use Rattle.trace.specs.Refusals.{FirstRefusal, too_long, header_cut, other_edition, many_sections, contents_cut, wrong_entry, left_over, EventFault, no_such_kind, runs_over, EventRefusal}
 use Rattle.trace.specs.Whole.{Reads, tagged}
 use Rattle.trace.specs.Fronts.{IsFrontOf}
-use Rattle.trace.specs.Theorems.{sections_until, ended_by, ReadOn}
+use Rattle.trace.specs.Theorems.{sections_until, ReadOn}
 use Rattle.trace.proofs.Opened.{section_is, size_some}
 use Rattle.trace.proofs.Refusals.{first_refusal, refusal_opens, opens}
 use Rattle.trace.proofs.Answered.{inside_again, next_event, next_none, next_refusal}
@@ -46,9 +46,9 @@ module _ (bytes : List ℕ) (none : opening bytes ≡ None) where
   reads_on : (ts : List (ℕ × Event)) (p : Place) (o : Option Refusal) → 0 < p.byte → Reads bytes p ts o → ReadOn bytes p ts o
   unfolding Reads ReadOn
   reads_on [] p None some r = next_inside p some ∙ cond-false _ _ _ (le-ltb _ _ r)
-  reads_on [] p (Some f) some r = next_inside p some ∙ cond-true _ _ _ (lt-ltb _ _ r.site.more) ∙ ap found (refusal_taken bytes p f r)
+  reads_on [] p (Some f) some r = next_inside p some ∙ cond-true _ _ _ (lt-ltb _ _ r.site.more) ∙ ap some_event (refusal_taken bytes p f r)
   reads_on (t ∷ ts) p o some (more, at, takes, rest) =
-      let gives = next_inside p some ∙ cond-true _ _ _ (lt-ltb _ _ more) ∙ ap found takes in
+      let gives = next_inside p some ∙ cond-true _ _ _ (lt-ltb _ _ more) ∙ ap some_event takes in
       let moves = (next_event bytes p t.1 gives).moves ∙ ap (moved bytes) (inside_again bytes p some) in
       (gives, ap (λ q. q.section) moves ∙ at, subst (λ q. ReadOn bytes q ts o) (sym moves) (reads_on ts (moved bytes p) o (omega arith) rest))
 

@@ -11,7 +11,7 @@ use Rattle.events.specs.declared.Action.TheVariants.{Commit}
 use Rattle.trace.specs.declared.place.Place.{Place}
 use Rattle.trace.specs.Words.{bytes_of, word, Bytes}
 use Rattle.events.specs.Kinds.{kind}
-use Rattle.trace.specs.Codec.{operands, event_bytes, size, simple, set_at, action_at, decoded}
+use Rattle.trace.specs.Codec.{operands, event_bytes, size, simple, place_set_at, action_at, decoded}
 use Rattle.trace.specs.Layout.{count, entry_offset, entry_length, body_end, section_at}
 use Rattle.trace.specs.Reading.{origin, moved}
 use Rattle.trace.specs.File.{body, contents, file}
@@ -62,7 +62,7 @@ module _ (bs : List ℕ) (all : Bytes bs) where
       (λ nine.
       let yes = eq-eqb k 9 nine in
       let long : size k ≡ 18 = cond-true (eqb k 9) 18 3 yes in
-      let act : action_at bs k (b + 2) ≡ Commit (set_at bs (b + 2)) (set_at bs (b + 2 + 8)) = cond-true (eqb k 9) _ _ yes in
+      let act : action_at bs k (b + 2) ≡ Commit (place_set_at bs (b + 2)) (place_set_at bs (b + 2 + 8)) = cond-true (eqb k 9) _ _ yes in
       let sets = bytes_again bs 8 (b + 2) all (omega arith) in
       let sets' = bytes_again bs 8 (b + 2 + 8) all (omega arith) in
       let join = sym (take-add 8 8 (drop (b + 2) bs) ∙ ap (λ l. take 8 (drop (b + 2) bs) ++ take 8 l) (drop-drop 8 (b + 2) bs)) in

@@ -10,7 +10,7 @@ use Rattle.trace.specs.declared.place.Place.{Place}
 use Rattle.trace.specs.declared.whole.ReadError.{ReadError}
 use Rattle.trace.specs.declared.whole.ReadError.TheVariants.{Refused}
 use Rattle.trace.specs.Layout.{count, body_end, opening, section_at}
-use Rattle.trace.specs.Reading.{origin, taken, moved, found}
+use Rattle.trace.specs.Reading.{origin, taken, moved, some_event}
 use Rattle.trace.specs.Refusals.{EventRefusal}
 use Rattle.trace.specs.Handing.{HandedAs}
 use Rattle.trace.specs.Whole.{Reads, in_section, tagged, IsTraceOf, Onward, Pushed, SectionRead}
@@ -60,12 +60,12 @@ module _ {T : Type 0} (items : T → List Event) where
   abbrev pub Converts : Refusal → ReadError → Type 0
   Converts f y = y ≡ Refused f
 
-  pub pushed_ok : (o : Result Event Refusal) (at : Site) (stay move q : Place) (t t' : T) (b : Bool) → HandedAs Pushes Converts (found o) at stay move t t' q (Ok b) → (e : Event) × (o ≡ Ok e) × (items t' ≡ items t ++ (e ∷ [])) × (q ≡ move)
+  pub pushed_ok : (o : Result Event Refusal) (at : Site) (stay move q : Place) (t t' : T) (b : Bool) → HandedAs Pushes Converts (some_event o) at stay move t t' q (Ok b) → (e : Event) × (o ≡ Ok e) × (items t' ≡ items t ++ (e ∷ [])) × (q ≡ move)
   pushed_ok (Err f) at stay move q t t' b h = absurd h.0
   pushed_ok (Ok e) at stay move q t t' b (Ok x, pushed, tells, goes) = (e, refl, pushed, goes)
   pushed_ok (Ok e) at stay move q t t' b (Err y, pushed, tells, goes) = absurd (let z : ◌≡◌ {A = ℕ} 0 1 = cc in omega arith)
 
-  pub pushed_refused : (o : Result Event Refusal) (at : Site) (stay move q : Place) (t t' : T) (y : ReadError) (f : Refusal) → y ≡ Refused f → HandedAs Pushes Converts (found o) at stay move t t' q (Err y) → (o ≡ Err f) × (items t' ≡ items t)
+  pub pushed_refused : (o : Result Event Refusal) (at : Site) (stay move q : Place) (t t' : T) (y : ReadError) (f : Refusal) → y ≡ Refused f → HandedAs Pushes Converts (some_event o) at stay move t t' q (Err y) → (o ≡ Err f) × (items t' ≡ items t)
   pushed_refused (Err g) at stay move q t t' y f is h = (let same : y ≡ Refused g = h.0 in cc, ap items h.1)
   pushed_refused (Ok e) at stay move q t t' y f is (Ok x, pushed, tells, goes) = absurd (let z : ◌≡◌ {A = ℕ} 0 1 = cc in omega arith)
   pushed_refused (Ok e) at stay move q t t' y f is (Err x, pushed, tells, goes) = absurd (let memory = pushed.0 in let z : ◌≡◌ {A = ℕ} 0 1 = cc in omega arith)

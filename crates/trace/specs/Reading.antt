@@ -49,9 +49,9 @@ taken bytes p = placed (site bytes p) (event_at bytes p.byte (body_end bytes (se
 abbrev pub moved : List ℕ → Place → Place
 moved bytes p = record { section = section_at bytes p.byte; events = p.events + 1; byte = p.byte + size (slice_index bytes p.byte) }
 
-abbrev pub found : Result Event Refusal → Result (Option Event) Refusal
-found (Ok e) = Ok (Some e)
-found (Err f) = Err f
+abbrev pub some_event : Result Event Refusal → Result (Option Event) Refusal
+some_event (Ok e) = Ok (Some e)
+some_event (Err f) = Err f
 
 -- p stays, unless an event was taken and q is behind it
 abbrev pub kept : Result Event Refusal → Place → Place → Place
@@ -60,7 +60,7 @@ kept (Err f) p q = p
 
 -- reading on inside the file
 abbrev pub onward : List ℕ → Place → Result (Option Event) Refusal
-onward bytes p = cond (nat_lt p.byte (length bytes)) (found (taken bytes p)) (Ok None)
+onward bytes p = cond (nat_lt p.byte (length bytes)) (some_event (taken bytes p)) (Ok None)
 
 abbrev pub behind : List ℕ → Place → Place
 behind bytes p = cond (nat_lt p.byte (length bytes)) (kept (taken bytes p) p (moved bytes p)) p

@@ -38,6 +38,11 @@ abbrev pub ReadBack : Type 0
 ReadBack =
     (counts : List ℕ) (events : List Event) → AllByRecursion (λ e. Words e.action) events → lawful counts events ≡ true → length (file counts events) ≤ 65536 → IsTraceOf (file counts events) counts events
 
+-- reading any file comes to its end or to a refusal, and so every file has a front
+abbrev pub EveryFront : Type 0
+EveryFront =
+    (bytes : List ℕ) → (counts : List ℕ) × (events : List Event) × (end : Option Refusal) × IsFrontOf bytes counts events end
+
 -- a file has one front: it determines the counts, the events, and the refusal if there is one; so too where the front is the whole
 abbrev pub OneFront : Type 0
 OneFront =

@@ -22,7 +22,8 @@ pub use layout::{ENOUGH, LONGEST};
 pub use place::{Guard, Place};
 pub use reader::Reader;
 pub use theorems::{
-    reading_is_one, reading_on_gives_the_front, rewriting_gives_the_same, writing_reads_back,
+    reading_ends, reading_is_one, reading_on_gives_the_front, rewriting_gives_the_same,
+    writing_reads_back,
 };
 pub use whole::{Front, ReadError, Trace, read_front, read_whole};
 pub use writer::write;

@@ -1,5 +1,5 @@
 // Theorems about trace files, each on the contract of a function that does nothing.
-ghost use Rattle.trace.specs.Theorems.{Rewritten, ReadBack, OneFront, FrontIsReadOn};
+ghost use Rattle.trace.specs.Theorems.{Rewritten, ReadBack, EveryFront, OneFront, FrontIsReadOn};
 
 // A file that reads whole, written again, is the same bytes.
 pub fn rewriting_gives_the_same()
@@ -9,6 +9,11 @@ pub fn rewriting_gives_the_same()
 // What is written, read back, is what was written.
 pub fn writing_reads_back()
     ensures { ReadBack }
+{}
+
+// Every file reads up to its end or to a refusal.
+pub fn reading_ends()
+    ensures { EveryFront }
 {}
 
 // No file reads in two ways.
