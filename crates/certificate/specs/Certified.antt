@@ -6,8 +6,8 @@
 --   RefusedFile bytes o l       a fault ended the run; the line l tells its number and site, and it is the first that applies
 --   Ends l                      the line l is `clean` or `not clean`, or begins with `refused `
 --   Tells bytes t events o      the text t has such a last line, and by its bytes the file is clean, racy or refused
---   Certifies bytes t           t is the text of the run of the file by a monitor with an empty record, what it says is so, and it
---                               is no longer than a certificate can be
+--   Certifies bytes t           t is the text of the run of the file by a monitor with an empty record, what it says is so,
+--                               and it is no longer than a certificate can be
 --   Agree                       a file has one certificate, whatever keeper the monitor stands over
 use Rattle.std.specs.Prelude.{◌≡◌, ℕ, ◌<◌, ◌≤◌, ◌⊎◌, List, [], ◌++◌, reverse, length, Some, codes}
 use Rattle.events.specs.declared.Event.{Event}

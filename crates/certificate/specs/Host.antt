@@ -1,9 +1,9 @@
 -- What the call for hosts answers. Assumes nothing.
---   Placed t out out' r    the text t is written to the buffer out, if it fits: then its length and its ending are answered, the
---                          bytes past it keep their contents, and else the buffer keeps all of them
+--   Placed t out out' r    the text t is written to the buffer out, if it fits: then its length and its ending are
+--                          answered, the bytes past it keep their contents, and else the buffer keeps all of them
 --   CertifiedInto Made ..  a text of which Made holds is placed
---   CertifiedAs ..         for the number of a kind, a certificate by the keeper of that kind is placed; for another number
---                          nothing is done
+--   CertifiedAs ..         for the number of a kind, a certificate by the keeper of that kind is placed; for another
+--                          number nothing is done
 --   no_room, no_such_kind  -19 and -22
 --   Written t out out' r   the same as Placed with the answer as a number
 --   HostAnswer ..          the same as CertifiedAs with the answer as a number
@@ -40,7 +40,8 @@ pub record Written (t out out' : List ℕ) (r : ℤ) : Type 0 where
   pub too_long : length out < length t → (r ≡ no_room) × (out' ≡ out)
 
 pub record HostAnswer (bytes : List ℕ) (number : ℕ) (out out' : List ℕ) (r : ℤ) : Type 0 where
-  pub known : (kind : KeeperKind) → number ≡ kind_number kind → (t : List ℕ) × MadeBy kind bytes t × Written t out out' r
+  pub known :
+      (kind : KeeperKind) → number ≡ kind_number kind → (t : List ℕ) × MadeBy kind bytes t × Written t out out' r
   -- no certificate is too long for so much room, and so there is a length
   pub room : (kind : KeeperKind) → number ≡ kind_number kind → LONGEST_TEXT ≤ length out → (n : ℕ) × (r ≡ pos n)
   pub unknown : ((kind : KeeperKind) → number ≢ kind_number kind) → (r ≡ no_such_kind) × (out' ≡ out)

@@ -1,8 +1,10 @@
 -- The last line of a text. Assumes nothing.
 --   OneLine l       l has no line feed
 --   WholeLines xs   xs is empty, or ends in a line feed
---   LastLine t l    l is the last line of the text t, which ends in that line's feed: before it are whole lines, or nothing
---   EndsAs t e      the last line of the text t tells the ending e: it is `clean` or `not clean`, or begins with `refused `
+--   LastLine t l    l is the last line of the text t, which ends in that line's feed: before it are whole lines, or
+--                   nothing
+--   EndsAs t e      the last line of the text t tells the ending e: it is `clean` or `not clean`, or begins with
+--                   `refused `
 use Rattle.std.specs.Prelude.{◌≡◌, ◌≢◌, ℕ, ◌⊎◌, List, [], ◌∷◌, ◌++◌, codes}
 use Rattle.std.specs.List.{AllByRecursion}
 use Rattle.certificate.specs.declared.ending.Ending.{Ending}

@@ -1,7 +1,8 @@
 -- By which keeper a certificate was made. Assumes nothing.
---   MadeOver its bytes t     t certifies the file, and there is a monitor over a keeper of that type which stands for the record that
---                            t tells of
---   MadeBy kind bytes t      the same with the keeper of that kind
+--   MadeOver its bytes t   t certifies the file, and there is a monitor, over a keeper of the type whose interface is `its`,
+--                          that stands for the record of which t tells
+--   MadeBy kind bytes t    the same with the keeper of that kind: the type's `ghosts`, and for a layer those over the
+--                          type below
 use Rattle.std.specs.Prelude.{ℕ, List}
 use Rattle.keepers.specs.declared.keeper.Keeper.{Ghosts}
 use Rattle.locksets.specs.contracts.keeper.LocksetsKeeper.TheImpl as locksets
