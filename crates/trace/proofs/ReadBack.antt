@@ -9,7 +9,7 @@ use Rattle.events.specs.declared.Event.{Event}
 use Rattle.events.specs.declared.Action.{Action}
 use Rattle.events.specs.declared.Action.TheVariants.{Read, Write, Acquire, Release, ReadFlag, WriteFlag, Fork, Join, Allocate, Commit}
 use Rattle.trace.specs.declared.place.Place.{Place}
-use Rattle.trace.specs.Words.{number_of, bytes_of, word}
+use Rattle.trace.specs.Words.{value_of, bytes_of, word}
 use Rattle.events.specs.Kinds.{kind}
 use Rattle.trace.specs.Codec.{operands, event_bytes, size, simple, place_set_at, action_at, decoded, event_at, Words}
 use Rattle.trace.specs.Layout.{count, entry_offset, entry_length, body_end, good_entry, bad_entry, entries, opening}
@@ -27,7 +27,7 @@ use Rattle.trace.proofs.Writing.{length_file}
 
 -- the number whose bytes stand at i
 word_at : (bs rest : List ℕ) (k i n : ℕ) → n < 256 ^ k → drop i bs ≡ bytes_of k n ++ rest → word k bs i ≡ n
-word_at bs rest k i n h e = ap (λ l. number_of (take k l)) e ∙ ap number_of (take_at (bytes_of k n) rest k (length_bytes_of k n)) ∙ number_bytes_of k n h
+word_at bs rest k i n h e = ap (λ l. value_of (take k l)) e ∙ ap value_of (take_at (bytes_of k n) rest k (length_bytes_of k n)) ∙ number_bytes_of k n h
 
 -- an event's bytes say the event, whatever follows them
 said : (t : ℕ) (a : Action) (rest : List ℕ) → Words a → ◌≡◌ {A = Event} (decoded ((kind a ∷ (t ∷ operands a)) ++ rest) 0) (record { thread = t; action = a })
@@ -67,8 +67,8 @@ decoded_drop bs b =
     let k = get_or-drop b bs 0 0 ∙ ap (λ n. get_or bs n 0) (let e : b + 0 ≡ b = omega arith in e) in
     let t = get_or-drop b bs 1 0 in
     let x = get_or-drop b bs 2 0 in
-    let r = ap (λ l. number_of (take 8 l)) (drop-drop 2 b bs) in
-    let w = ap (λ l. number_of (take 8 l)) (drop-drop 10 b bs ∙ ap (λ n. drop n bs) (let e : b + 10 ≡ b + 2 + 8 = omega arith in e)) in
+    let r = ap (λ l. value_of (take 8 l)) (drop-drop 2 b bs) in
+    let w = ap (λ l. value_of (take 8 l)) (drop-drop 10 b bs ∙ ap (λ n. drop n bs) (let e : b + 10 ≡ b + 2 + 8 = omega arith in e)) in
     ap (λ n. record { thread = n; action = action_at bs (get_or bs b 0) (b + 2) }) (sym t)
     ∙ ap (λ n. record { thread = get_or (drop b bs) 1 0; action = action_at bs n (b + 2) }) (sym k)
     ∙ ap (λ n. record { thread = get_or (drop b bs) 1 0; action = cond (eqb (get_or (drop b bs) 0 0) 9) (Commit (record { word = n }) (place_set_at bs (b + 2 + 8))) (simple (get_or (drop b bs) 0 0) (get_or bs (b + 2) 0)) }) (sym r)

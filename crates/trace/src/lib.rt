@@ -16,6 +16,7 @@ mod whole;
 mod words;
 mod writer;
 
+pub use encode::event_size;
 pub use fault::{Refusal, Site, TraceFault, WriteFault};
 pub use handing::Taker;
 pub use layout::{ENOUGH, LONGEST};
