@@ -5,19 +5,20 @@ use Rattle.std.proofs.lemmas.Bool.{cond_both, cond-false, eqb-false, ne_eqb, fal
 use Rattle.std.proofs.lemmas.List.{append_assoc, append-nil, same_from_push}
 use Rattle.std.specs.Fmt.{digit_glyph, digits_onto, digits}
 use Rattle.events.specs.declared.Event.{Event}
-use Rattle.monitor.specs.Promise.{Sound}
+use Rattle.monitor.specs.Sound.{Sound}
 use Rattle.trace.specs.declared.fault.Refusal.{Refusal}
 use Rattle.trace.specs.Layout.{opening}
 use Rattle.trace.specs.Reading.{origin, entered, inside, outside}
-use Rattle.trace.specs.Whole.{Reads, Contains}
-use Rattle.trace.proofs.Wholes.{contained}
+use Rattle.trace.specs.Whole.{Reads, IsTraceOf}
+use Rattle.trace.proofs.Wholes.{trace_of_reading}
 use Rattle.certificate.specs.declared.fault.Fault.{Fault}
 use Rattle.certificate.specs.declared.finding.Finding.{Finding}
 use Rattle.certificate.specs.Numbers.{number_of}
 use Rattle.certificate.specs.Running.{Outcome}
 use Rattle.certificate.specs.Sentence.{ListsRaces, ReadOut, Sentence}
 use Rattle.certificate.specs.Texts.{finding_text, fault_text, findings_text, first_text, last_text, text}
-use Rattle.certificate.specs.LastLine.{OneLine, WholeLines, LastLine}
+use Rattle.certificate.specs.declared.ending.Ending.TheVariants.{Clean, NotClean, Refused}
+use Rattle.certificate.specs.LastLine.{OneLine, WholeLines, LastLine, EndsAs}
 use Rattle.certificate.specs.Certified.{CleanFile, RacyFile, RefusedFile, Ends, Tells}
 
 -- what follows the last line feed, behind what was read of its line before
@@ -131,6 +132,21 @@ text_last a fs end = record {
   whole_lines = inr (fed_before (first_text a (length fs)) (findings_text fs) (first_fed a (length fs)) (findings_lines fs));
 }
 
+-- the ending that the last line tells
+pub ends_clean : (a : ℕ) (fs : List Finding) (end : Option Fault) → length fs < 1 → end ≡ None → EndsAs (text a fs end) Clean
+ends_clean a [] None few none = text_last a [] None
+ends_clean a (f ∷ fs) None few none = absurd (omega arith)
+ends_clean a fs (Some f) few none = absurd (cc)
+
+pub ends_racy : (a : ℕ) (fs : List Finding) (end : Option Fault) → 0 < length fs → end ≡ None → EndsAs (text a fs end) NotClean
+ends_racy a [] None some none = absurd (omega arith)
+ends_racy a (f ∷ fs) None some none = text_last a (f ∷ fs) None
+ends_racy a fs (Some f) some none = absurd (cc)
+
+pub ends_refused : (a : ℕ) (fs : List Finding) (end : Option Fault) (f : Fault) → end ≡ Some f → EndsAs (text a fs end) Refused
+ends_refused a fs (Some g) f is = (_, text_last a fs (Some g))
+ends_refused a fs None f is = absurd (cc)
+
 -- how the run ended, by the last line, whose first letter tells it
 abbrev letter : List ℕ → ℕ
 letter l = get_or l 0 0
@@ -150,15 +166,15 @@ fault_end fs (Some f) l e = (f, refl, refl)
 fault_end [] None l e = absurd (let z : ◌≡◌ {A = ℕ} 99 114 = ap letter e in omega arith)
 fault_end (f ∷ fs) None l e = absurd (let z : ◌≡◌ {A = ℕ} 110 114 = ap letter e in omega arith)
 
-entered_none : (bytes : List ℕ) (o : Option Refusal) → (entered bytes o outside).events ≡ 0
+pub entered_none : (bytes : List ℕ) (o : Option Refusal) → (entered bytes o outside).events ≡ 0
 entered_none bytes (Some f) = refl
 entered_none bytes None = refl
 
 -- the whole file was read
-file_read : (bytes : List ℕ) (events : List Event) → ReadOut bytes outside events → (counts : List ℕ) × Contains bytes counts events
+file_read : (bytes : List ℕ) (events : List Event) → ReadOut bytes outside events → (counts : List ℕ) × IsTraceOf bytes counts events
 file_read bytes events out =
     let first : inside bytes outside ≡ origin bytes = ap (λ o. entered bytes o outside) out.opens in
-    contained bytes out.sectioned events out.opens (subst (λ p. Reads bytes p out.sectioned None) first out.reads) out.events
+    trace_of_reading bytes out.opens out.sectioned events (subst (λ p. Reads bytes p out.sectioned None) first out.reads) out.events
 
 module _ (bytes t : List ℕ) (events : List Event) (o : Outcome) (says : Sentence bytes outside [] events o) (is : t ≡ text (length o.recorded_as) o.findings o.end) where
   has_last : LastLine t (last_line o.findings o.end)
@@ -172,7 +188,7 @@ module _ (bytes t : List ℕ) (events : List Event) (o : Outcome) (says : Senten
       let end = clean_end o.findings o.end (the_last (codes "clean") line) in
       let file = file_read bytes events (says.whole end.0) in
       let all = says.clean end.0 end.1 ∙ append-nil (reverse events) in
-      record { counts = file.0; contains = file.1; accepted = all; sound = subst Sound all says.sound }
+      record { counts = file.0; trace = file.1; accepted = all; sound = subst Sound all says.sound }
 
   tells_racy : LastLine t (codes "not clean") → RacyFile bytes events o
   tells_racy line =
@@ -180,7 +196,7 @@ module _ (bytes t : List ℕ) (events : List Event) (o : Outcome) (says : Senten
       let file = file_read bytes events (says.whole end.0) in
       record {
         counts = file.0;
-        contains = file.1;
+        trace = file.1;
         some = end.1;
         races = subst (λ n. ListsRaces [] n events o.findings) (entered_none bytes (opening bytes)) says.races;
       }

@@ -12,7 +12,7 @@ use crate::finding::{Finding, Findings};
 use crate::run::{Ran, Run};
 use events::Event;
 use keepers::Keeper;
-use monitor::{Monitor, Verdict};
+use monitor::{Decision, Monitor};
 use trace::{Reader, Site, Taker};
 
 impl<K: Keeper> Run<K> {
@@ -20,18 +20,14 @@ impl<K: Keeper> Run<K> {
     fn put(&mut self, event: Event, number: usize) -> Result<(), Cause>
         ensures { (rec : List AnEvent) → Stands rec self.old.monitor → Put self.old.findings number (judge rec event) result self.new.findings × Stands (recorded rec event (judge rec event)) self.new.monitor }
     {
-        match self.monitor.offer(event) {
-            Verdict::Accepted { .. } => Ok(()),
-            Verdict::Declined { place, witness } => {
-                self.findings.add(Finding {
-                    event: number,
-                    place,
-                    witness,
-                })?;
-                Ok(())
-            }
-            Verdict::Refused { fault } => Err(Cause::from(fault)),
+        if let Decision::Declined { place, witness } = self.monitor.try_offer(event)? {
+            self.findings.add(Finding {
+                event: number,
+                place,
+                witness,
+            })?;
         }
+        Ok(())
     }
 }
 

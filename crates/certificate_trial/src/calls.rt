@@ -1,6 +1,6 @@
 // Calls for a certificate, and what they answer.
 use crate::files::written;
-use certificate::wickerheron_certify;
+use certificate::{LONGEST_TEXT, wickerheron_certify};
 use events::Action;
 use std::alloc::{AllocError, Global};
 use std::fmt;
@@ -8,9 +8,6 @@ use std::str::from_utf8;
 
 // What the buffer holds before a call.
 const BEFORE: u8 = 170;
-
-// More than the longest certificate here has.
-pub(crate) const AMPLE: usize = 32_768;
 
 // A thread and what it does. An `Event` says the same; its fields' names would make the tables no plainer.
 pub(crate) type Step = (u8, Action);
@@ -68,7 +65,7 @@ impl fmt::Display for Answer {
 pub(crate) fn compare(rt: &HostRuntime, file: &[u8], first: &Answer) -> anyhow::Result<()> {
     let mut agree = first.kept();
     for kind in 2..5 {
-        if call(rt.alloc(), file, kind, AMPLE)? != *first {
+        if call(rt.alloc(), file, kind, LONGEST_TEXT)? != *first {
             println!(rt; "kind {kind} differs")?;
             agree = false;
         }
@@ -84,7 +81,7 @@ pub(crate) fn compare(rt: &HostRuntime, file: &[u8], first: &Answer) -> anyhow::
 
 // A file's certificate under its name.
 pub(crate) fn show(rt: &HostRuntime, name: &str, file: &[u8]) -> anyhow::Result<()> {
-    let answer = call(rt.alloc(), file, 1, AMPLE)?;
+    let answer = call(rt.alloc(), file, 1, LONGEST_TEXT)?;
     print!(rt; "{name}:\n{answer}")?;
     compare(rt, file, &answer)
 }

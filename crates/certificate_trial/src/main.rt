@@ -3,6 +3,7 @@
 
 mod calls;
 mod damaged;
+mod endings;
 mod files;
 mod many;
 mod rooms;
@@ -18,5 +19,6 @@ fn main(rt: HostRuntime) -> anyhow::Result<()> {
     damaged::at_events(&rt)?;
     damaged::behind(&rt)?;
     many::declines(&rt)?;
-    rooms::rooms(&rt)
+    rooms::rooms(&rt)?;
+    endings::endings(&rt)
 }

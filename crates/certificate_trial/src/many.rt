@@ -1,6 +1,7 @@
 // As many findings as a certificate lists, and one more.
-use crate::calls::{AMPLE, call, compare};
+use crate::calls::{call, compare};
 use crate::files::written;
+use certificate::LONGEST_TEXT;
 use events::Action;
 use std::alloc::Global;
 
@@ -42,7 +43,7 @@ fn show_ends(rt: &HostRuntime, text: &str) -> anyhow::Result<()> {
 
 fn show_many(rt: &HostRuntime, declined: u32, accepted: u32) -> anyhow::Result<()> {
     let file = reads(rt.alloc(), declined, accepted)?;
-    let answer = call(rt.alloc(), file.as_slice(), 1, AMPLE)?;
+    let answer = call(rt.alloc(), file.as_slice(), 1, LONGEST_TEXT)?;
     let text = format!(in rt.alloc(); "{answer}")?;
     println!(rt; "races {declined}, other reads {accepted}:")?;
     show_ends(rt, text.as_str())?;

@@ -1,6 +1,7 @@
 // Buffers of several lengths, and kinds of keeper that there are not.
-use crate::calls::{AMPLE, call};
+use crate::calls::call;
 use crate::verdicts::RACE;
+use certificate::LONGEST_TEXT;
 use handmade::single;
 
 // The kind, by the number that C gives it, and the room of each call; the text has 58 bytes.
@@ -22,7 +23,7 @@ const CALLS: [(u32, usize); 12] = [
 // What each call answers, and what the buffer then holds.
 pub(crate) fn rooms(rt: &HostRuntime) -> anyhow::Result<()> {
     let file = single(rt.alloc(), &RACE)?;
-    let whole = call(rt.alloc(), file.as_slice(), 1, AMPLE)?;
+    let whole = call(rt.alloc(), file.as_slice(), 1, LONGEST_TEXT)?;
     let (text, _) = whole.parts();
     for (kind, room) in CALLS {
         let answer = call(rt.alloc(), file.as_slice(), kind, room)?;

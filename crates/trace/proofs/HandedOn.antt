@@ -7,7 +7,7 @@ use Rattle.trace.specs.declared.fault.Refusal.{Refusal}
 use Rattle.trace.specs.declared.place.Place.{Place}
 use Rattle.trace.specs.Codec.{size, event_at}
 use Rattle.trace.specs.Layout.{body_end, section_at}
-use Rattle.trace.specs.Reading.{site, placed, inside, taken, moved, found, next, after}
+use Rattle.trace.specs.Reading.{site, placed, inside, taken, moved, some_event, next, after}
 use Rattle.trace.specs.Handing.{answered, HandedAs, Handed}
 use Rattle.trace.proofs.Steps.{after_stays}
 
@@ -25,12 +25,12 @@ mapped_ok (Err y) P x h e = absurd (subst (λ z. IsErrAnd z (P y)) e h)
 
 module _ {T E : Type 0} (took : T → Event → Site → Result (Unit {0}) E → T → Type 0) (converts : Refusal → E → Type 0) (bytes : List ℕ) (p : Place) where
   -- the event that was read is handed on
-  pub handed_so : (s end : ℕ) (e : Event) (read : Result Event TraceFault) (t t' : T) (q : Place) (r : Result Bool E) (was x : Result (Unit {0}) E) → s ≡ section_at bytes p.byte → end ≡ body_end bytes s → read ≡ event_at bytes p.byte end → read ≡ Ok e → took t e (record { section = s; event = p.events + 1; byte = p.byte }) was t' → was ≡ x → r ≡ answered x → q ≡ cond (is_ok x) (moved bytes p) p → HandedAs took converts (found (taken bytes p)) (site bytes p) p (moved bytes p) t t' q r
+  pub handed_so : (s end : ℕ) (e : Event) (read : Result Event TraceFault) (t t' : T) (q : Place) (r : Result Bool E) (was x : Result (Unit {0}) E) → s ≡ section_at bytes p.byte → end ≡ body_end bytes s → read ≡ event_at bytes p.byte end → read ≡ Ok e → took t e (record { section = s; event = p.events + 1; byte = p.byte }) was t' → was ≡ x → r ≡ answered x → q ≡ cond (is_ok x) (moved bytes p) p → HandedAs took converts (some_event (taken bytes p)) (site bytes p) p (moved bytes p) t t' q r
   handed_so s end e read t t' q r was x at stops reads ok takes came tells stands =
       let here : ◌≡◌ {A = Site} (record { section = s; event = p.events + 1; byte = p.byte }) (site bytes p) = ap (λ n. record { section = n; event = p.events + 1; byte = p.byte }) at in
       let event : read ≡ event_at bytes p.byte (body_end bytes (section_at bytes p.byte)) = reads ∙ ap (event_at bytes p.byte) (stops ∙ ap (body_end bytes) at) in
       let is : taken bytes p ≡ Ok e = ap (placed (site bytes p)) (sym event ∙ ok) in
-      subst (λ o. HandedAs took converts o (site bytes p) p (moved bytes p) t t' q r) (sym (ap found is)) (x, subst (λ a. took t e a x t') here (subst (λ y. took t e (record { section = s; event = p.events + 1; byte = p.byte }) y t') came takes), tells, stands)
+      subst (λ o. HandedAs took converts o (site bytes p) p (moved bytes p) t t' q r) (sym (ap some_event is)) (x, subst (λ a. took t e a x t') here (subst (λ y. took t e (record { section = s; event = p.events + 1; byte = p.byte }) y t') came takes), tells, stands)
 
 -- what is told by a taker that keeps the event
 abbrev pub Keeps : Option Event → Event → Site → Result (Unit {0}) Refusal → Option Event → Type 0

@@ -12,6 +12,9 @@ pub mod Bodies
 pub mod Contents
 pub mod Writing
 pub mod Sections
+pub mod Fronts
 pub mod Rewrite
 pub mod ReadBack
 pub mod HandedOn
+pub mod ReadOn
+pub mod OneFront

@@ -5,17 +5,17 @@ use Rattle.std.proofs.lemmas.Nat.{div_below}
 use Rattle.std.proofs.ByRecursion.{All-take, All-drop}
 use Rattle.std.proofs.lemmas.List.{length-drop, length-take-le, drop_more, get_or-take, get_or-drop}
 use Rattle.std.specs.Int.{from_le_bytes, w16, w32, w64}
-use Rattle.trace.specs.Words.{number, bytes_of, word, Bytes}
+use Rattle.trace.specs.Words.{value_of, bytes_of, word, Bytes}
 
 pub word_none : (bytes : List ℕ) (i : ℕ) → word 0 bytes i ≡ 0
-unfolding number
+unfolding value_of
 word_none bytes i = refl
 
 -- the lowest byte, and the rest from j = i + 1 on
 pub word_more : (k : ℕ) (bytes : List ℕ) (i j : ℕ) → i < length bytes → j ≡ i + 1 → word (suc k) bytes i ≡ get_or bytes i 0 + 256 * word k bytes j
-unfolding number
+unfolding value_of
 word_more k bytes i j h e =
-    ap (λ l. number (take (suc k) l)) (drop_more bytes i 0 h) ∙ ap (λ m. get_or bytes i 0 + 256 * number (take k (drop m bytes))) (sym e)
+    ap (λ l. value_of (take (suc k) l)) (drop_more bytes i 0 h) ∙ ap (λ m. get_or bytes i 0 + 256 * value_of (take k (drop m bytes))) (sym e)
 
 -- the bytes at i and j = i + 1, and the rest from n = i + 2 on
 pub word_pair : (k : ℕ) (bytes : List ℕ) (i j n : ℕ) → i + 2 ≤ length bytes → j ≡ i + 1 → n ≡ i + 2 → word (suc (suc k)) bytes i ≡ get_or bytes i 0 + 256 * get_or bytes j 0 + 65536 * word k bytes n
@@ -113,13 +113,13 @@ bytes_8 n =
     cc
 
 -- the bytes of the number that bytes stand for are those bytes
-pub bytes_of_number : (bs : List ℕ) → Bytes bs → bytes_of (length bs) (number bs) ≡ bs
-unfolding number bytes_of
+pub bytes_of_number : (bs : List ℕ) → Bytes bs → bytes_of (length bs) (value_of bs) ≡ bs
+unfolding value_of bytes_of
 bytes_of_number [] all = refl
 bytes_of_number (b ∷ bs) all =
-    let low : (b + 256 * number bs) % 256 ≡ b = omega (arith, all.0) in
-    let high : (b + 256 * number bs) / 256 ≡ number bs = omega (arith, all.0) in
-    ap (λ x. x ∷ bytes_of (length bs) ((b + 256 * number bs) / 256)) low ∙ ap (λ m. b ∷ bytes_of (length bs) m) high ∙ ap (λ l. b ∷ l) (bytes_of_number bs all.1)
+    let low : (b + 256 * value_of bs) % 256 ≡ b = omega (arith, all.0) in
+    let high : (b + 256 * value_of bs) / 256 ≡ value_of bs = omega (arith, all.0) in
+    ap (λ x. x ∷ bytes_of (length bs) ((b + 256 * value_of bs) / 256)) low ∙ ap (λ m. b ∷ bytes_of (length bs) m) high ∙ ap (λ l. b ∷ l) (bytes_of_number bs all.1)
 
 pub bytes_again : (bytes : List ℕ) (k i : ℕ) → Bytes bytes → i + k ≤ length bytes → bytes_of k (word k bytes i) ≡ take k (drop i bytes)
 bytes_again bytes k i all h =
@@ -127,8 +127,8 @@ bytes_again bytes k i all h =
     ap (λ n. bytes_of n (word k bytes i)) (sym long) ∙ bytes_of_number (take k (drop i bytes)) (All-take (λ b. b < 256) k (drop i bytes) (All-drop (λ b. b < 256) i bytes all))
 
 -- the number of a number's bytes is that number
-pub number_bytes_of : (k n : ℕ) → n < 256 ^ k → number (bytes_of k n) ≡ n
-unfolding number bytes_of
+pub number_bytes_of : (k n : ℕ) → n < 256 ^ k → value_of (bytes_of k n) ≡ n
+unfolding value_of bytes_of
 number_bytes_of zero n h = omega arith
 number_bytes_of (suc k) n h =
     let e : 256 ^ suc k ≡ 256 ^ k * 256 = pow-suc 256 k in

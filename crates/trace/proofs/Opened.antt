@@ -4,8 +4,8 @@ use Rattle.std.proofs.lemmas.Bool.{cond_both, true≢false, and_parts, not-false
 use Rattle.trace.specs.declared.place.Place.{Place}
 use Rattle.trace.specs.Codec.{size}
 use Rattle.trace.specs.Words.{word}
-use Rattle.trace.specs.Layout.{count, entry_offset, entry_length, body_end, good_entry, bad_entry, entries, opening, ended, section_at}
-use Rattle.trace.specs.Reading.{origin, Stands}
+use Rattle.trace.specs.Layout.{count, entry_offset, entry_length, body_end, good_entry, bad_entry, entries, opening, sections_ended, section_at}
+use Rattle.trace.specs.Reading.{origin, IsBetweenEvents}
 use Rattle.trace.proofs.Entries.{body_end_none, body_end_more}
 
 -- nothing is refused at a test: it came out false, and nothing is refused after it
@@ -87,27 +87,27 @@ ends_rise bytes s (suc k) =
 pub ends_ordered : (bytes : List ℕ) (s t : ℕ) → s ≤ t → body_end bytes s ≤ body_end bytes t
 ends_ordered bytes s t h = let e : s + (t - s) ≡ t = omega arith in subst (λ n. body_end bytes s ≤ body_end bytes n) e (ends_rise bytes s (t - s))
 
-ended_more : (bytes : List ℕ) (k b : ℕ) → ended bytes (k + 1) b ≡ ended bytes k b + cond (leb (body_end bytes (k + 1)) b) 1 0
-unfolding ended
-ended_more bytes k b = ap (λ m. ended bytes m b) (add-one k) ∙ ap (λ m. ended bytes k b + cond (leb (body_end bytes m) b) 1 0) (sym (add-one k))
+ended_more : (bytes : List ℕ) (k b : ℕ) → sections_ended bytes (k + 1) b ≡ sections_ended bytes k b + cond (leb (body_end bytes (k + 1)) b) 1 0
+unfolding sections_ended
+ended_more bytes k b = ap (λ m. sections_ended bytes m b) (add-one k) ∙ ap (λ m. sections_ended bytes k b + cond (leb (body_end bytes m) b) 1 0) (sym (add-one k))
 
 -- the first m sections end at or before b
-ended_below : (bytes : List ℕ) (m k b : ℕ) → body_end bytes m ≤ b → k ≤ m → ended bytes k b ≡ k
-unfolding ended
+ended_below : (bytes : List ℕ) (m k b : ℕ) → body_end bytes m ≤ b → k ≤ m → sections_ended bytes k b ≡ k
+unfolding sections_ended
 ended_below bytes m zero b h l = refl
 ended_below bytes m (suc k) b h l =
     let yes = le-leb (body_end bytes (suc k)) b (omega (arith, ends_ordered bytes (suc k) m l)) in
     let sofar = ended_below bytes m k b h (omega arith) in
-    ap (λ t. ended bytes k b + cond t 1 0) yes ∙ (omega arith)
+    ap (λ t. sections_ended bytes k b + cond t 1 0) yes ∙ (omega arith)
 
 -- the sections after them do not
-ended_above : (bytes : List ℕ) (m k b : ℕ) → body_end bytes m ≤ b → b < body_end bytes (m + 1) → ended bytes (m + k) b ≡ m
+ended_above : (bytes : List ℕ) (m k b : ℕ) → body_end bytes m ≤ b → b < body_end bytes (m + 1) → sections_ended bytes (m + k) b ≡ m
 ended_above bytes m zero b h l = let e : m + 0 ≡ m = omega arith in rw e (ended_below bytes m m b h (omega arith))
 ended_above bytes m (suc k) b h l =
     let e : m + suc k ≡ m + k + 1 = omega arith in
     let no = lt-leb (body_end bytes (m + k + 1)) b (omega (arith, ends_ordered bytes (m + 1) (m + k + 1) (omega arith))) in
     let sofar = ended_above bytes m k b h l in
-    rw e (ended_more bytes (m + k) b ∙ ap (λ t. ended bytes (m + k) b + cond t 1 0) no ∙ (omega arith))
+    rw e (ended_more bytes (m + k) b ∙ ap (λ t. sections_ended bytes (m + k) b + cond t 1 0) no ∙ (omega arith))
 
 -- the section whose body holds b is the one that ends behind it, the one before it having ended
 pub section_is : (bytes : List ℕ) (s b : ℕ) → 0 < s → s ≤ count bytes → body_end bytes (s - 1) ≤ b → b < body_end bytes s → section_at bytes b ≡ s
@@ -116,7 +116,7 @@ section_is bytes s b some few low high =
     let e : m + 1 ≡ s = omega arith in
     let f : m + (count bytes - m) ≡ count bytes = omega arith in
     let all = ended_above bytes m (count bytes - m) b low (subst (λ n. b < body_end bytes n) (sym e) high) in
-    let all' = subst (λ n. ended bytes n b ≡ m) f all in
+    let all' = subst (λ n. sections_ended bytes n b ≡ m) f all in
     omega arith
 
 -- the first section from `first` on that ends behind b, or else the last one, holds b, where the section before `first` has ended
@@ -138,8 +138,8 @@ pub opened_inside : (bytes : List ℕ) → is_some (opening bytes) ≡ false →
 opened_inside bytes e = opened bytes (none_from (opening bytes) e)
 
 -- a reader may stand before the first event
-pub stands_first : (bytes : List ℕ) → opening bytes ≡ None → Stands bytes (origin bytes)
-stands_first bytes e =
+pub between_first : (bytes : List ℕ) → opening bytes ≡ None → IsBetweenEvents bytes (origin bytes)
+between_first bytes e =
     let file = opened bytes e in
     let start = body_end_none bytes in
     (omega arith, omega arith, file.room, omega arith)
@@ -149,8 +149,8 @@ pub size_some : (k : ℕ) → 3 ≤ size k
 size_some k = cond_both (eqb k 9) 18 3 (λ n. 3 ≤ n) (λ _. omega arith) (λ _. omega arith)
 
 -- a reader may stand behind an event of k's kind that its body holds
-pub stands_behind : {bytes : List ℕ} (file : Opened bytes) (p q : Place) (s k : ℕ) → s ≤ count bytes → body_end bytes (s - 1) ≤ p.byte → p.events ≤ p.byte → q.section ≡ s → q.events ≡ p.events + 1 → q.byte ≡ p.byte + size k → q.byte ≤ body_end bytes s → Stands bytes q
-stands_behind {bytes} file p q s k few low least section events byte high =
+pub between_behind : {bytes : List ℕ} (file : Opened bytes) (p q : Place) (s k : ℕ) → s ≤ count bytes → body_end bytes (s - 1) ≤ p.byte → p.events ≤ p.byte → q.section ≡ s → q.events ≡ p.events + 1 → q.byte ≡ p.byte + size k → q.byte ≤ body_end bytes s → IsBetweenEvents bytes q
+between_behind {bytes} file p q s k few low least section events byte high =
     let some = size_some k in
     let end = within file s few in
     (omega arith, subst (λ n. body_end bytes (n - 1) ≤ q.byte) (sym section) (omega arith), omega arith, omega arith)

@@ -1,21 +1,21 @@
 -- A file that was written reads whole, as the events and sections that were written. Assumes nothing.
-use Rattle.std.proofs.Common.{◌≡◌, ℕ, suc, ◌+◌, ◌-◌, ◌*◌, ◌^◌, ◌<◌, ◌≤◌, cond, not, eqb, ltb, leb, List, [], ◌∷◌, ◌++◌, length, get_or, take, drop, None, Ok, sum, sym, refl, ap, ◌∙◌, subst, add-one, arith}
+use Rattle.std.proofs.Common.{◌≡◌, ℕ, suc, ◌+◌, ◌-◌, ◌*◌, ◌^◌, ◌<◌, ◌≤◌, true, cond, not, eqb, ltb, leb, List, [], ◌∷◌, ◌++◌, length, get_or, take, drop, None, Ok, sum, sym, refl, ap, ◌∙◌, subst, add-one, arith}
 use Rattle.std.proofs.ByRecursion.{All-take, All-drop}
 use Rattle.std.proofs.lemmas.List.{append_assoc, length-append, length-drop, take_at, drop_at, drop-drop, get_or-drop, nil_from_length}
 use Rattle.std.proofs.lemmas.List.Sums.{sum_by-cons}
-use Rattle.std.proofs.lemmas.Bool.{and_from, eq-eqb, le-leb, lt-leb, le-ltb, cond-true, cond-false, not_from_true}
+use Rattle.std.proofs.lemmas.Bool.{and_from, and_parts, eqb-true, leb-true, eq-eqb, le-leb, lt-leb, le-ltb, cond-true, cond-false, not_from_true}
 use Rattle.std.specs.List.{AllByRecursion}
 use Rattle.events.specs.declared.Event.{Event}
 use Rattle.events.specs.declared.Action.{Action}
 use Rattle.events.specs.declared.Action.TheVariants.{Read, Write, Acquire, Release, ReadFlag, WriteFlag, Fork, Join, Allocate, Commit}
 use Rattle.trace.specs.declared.place.Place.{Place}
-use Rattle.trace.specs.Words.{number, bytes_of, word}
+use Rattle.trace.specs.Words.{value_of, bytes_of, word}
 use Rattle.events.specs.Kinds.{kind}
-use Rattle.trace.specs.Codec.{operands, event_bytes, size, simple, set_at, action_at, decoded, event_at, Words}
+use Rattle.trace.specs.Codec.{operands, event_bytes, size, simple, place_set_at, action_at, decoded, event_at, Words}
 use Rattle.trace.specs.Layout.{count, entry_offset, entry_length, body_end, good_entry, bad_entry, entries, opening}
 use Rattle.trace.specs.Reading.{origin, site, placed, moved}
-use Rattle.trace.specs.File.{body, contents, file}
-use Rattle.trace.specs.Whole.{Reads, in_section, tagged, Contains}
+use Rattle.trace.specs.File.{body, contents, file, lawful}
+use Rattle.trace.specs.Whole.{Reads, in_section, tagged, IsTraceOf}
 use Rattle.trace.proofs.Numbers.{number_bytes_of, length_bytes_of}
 use Rattle.trace.proofs.Events.{length_event}
 use Rattle.trace.proofs.Entries.{body_end_none, body_end_more}
@@ -27,7 +27,7 @@ use Rattle.trace.proofs.Writing.{length_file}
 
 -- the number whose bytes stand at i
 word_at : (bs rest : List ℕ) (k i n : ℕ) → n < 256 ^ k → drop i bs ≡ bytes_of k n ++ rest → word k bs i ≡ n
-word_at bs rest k i n h e = ap (λ l. number (take k l)) e ∙ ap number (take_at (bytes_of k n) rest k (length_bytes_of k n)) ∙ number_bytes_of k n h
+word_at bs rest k i n h e = ap (λ l. value_of (take k l)) e ∙ ap value_of (take_at (bytes_of k n) rest k (length_bytes_of k n)) ∙ number_bytes_of k n h
 
 -- an event's bytes say the event, whatever follows them
 said : (t : ℕ) (a : Action) (rest : List ℕ) → Words a → ◌≡◌ {A = Event} (decoded ((kind a ∷ (t ∷ operands a)) ++ rest) 0) (record { thread = t; action = a })
@@ -47,7 +47,7 @@ said t (Commit r w) rest h =
     let apart = append_assoc x y rest in
     let reads = word_at both (y ++ rest) 8 2 r.word h.0 apart in
     let writes = word_at both rest 8 10 w.word h.1 (ap (drop 8) apart ∙ drop_at x (y ++ rest) 8 (length_bytes_of 8 r.word)) in
-    ap (λ m. record { thread = t; action = Commit (record { word = m }) (set_at both 10) }) reads ∙ ap (λ m. record { thread = t; action = Commit r (record { word = m }) }) writes
+    ap (λ m. record { thread = t; action = Commit (record { word = m }) (place_set_at both 10) }) reads ∙ ap (λ m. record { thread = t; action = Commit r (record { word = m }) }) writes
 
 kind_few : (a : Action) → kind a < 10
 kind_few (Read p) = omega arith
@@ -67,13 +67,13 @@ decoded_drop bs b =
     let k = get_or-drop b bs 0 0 ∙ ap (λ n. get_or bs n 0) (let e : b + 0 ≡ b = omega arith in e) in
     let t = get_or-drop b bs 1 0 in
     let x = get_or-drop b bs 2 0 in
-    let r = ap (λ l. number (take 8 l)) (drop-drop 2 b bs) in
-    let w = ap (λ l. number (take 8 l)) (drop-drop 10 b bs ∙ ap (λ n. drop n bs) (let e : b + 10 ≡ b + 2 + 8 = omega arith in e)) in
+    let r = ap (λ l. value_of (take 8 l)) (drop-drop 2 b bs) in
+    let w = ap (λ l. value_of (take 8 l)) (drop-drop 10 b bs ∙ ap (λ n. drop n bs) (let e : b + 10 ≡ b + 2 + 8 = omega arith in e)) in
     ap (λ n. record { thread = n; action = action_at bs (get_or bs b 0) (b + 2) }) (sym t)
     ∙ ap (λ n. record { thread = get_or (drop b bs) 1 0; action = action_at bs n (b + 2) }) (sym k)
-    ∙ ap (λ n. record { thread = get_or (drop b bs) 1 0; action = cond (eqb (get_or (drop b bs) 0 0) 9) (Commit (record { word = n }) (set_at bs (b + 2 + 8))) (simple (get_or (drop b bs) 0 0) (get_or bs (b + 2) 0)) }) (sym r)
-    ∙ ap (λ n. record { thread = get_or (drop b bs) 1 0; action = cond (eqb (get_or (drop b bs) 0 0) 9) (Commit (set_at (drop b bs) 2) (record { word = n })) (simple (get_or (drop b bs) 0 0) (get_or bs (b + 2) 0)) }) (sym w)
-    ∙ ap (λ n. record { thread = get_or (drop b bs) 1 0; action = cond (eqb (get_or (drop b bs) 0 0) 9) (Commit (set_at (drop b bs) 2) (set_at (drop b bs) 10)) (simple (get_or (drop b bs) 0 0) n) }) (sym x)
+    ∙ ap (λ n. record { thread = get_or (drop b bs) 1 0; action = cond (eqb (get_or (drop b bs) 0 0) 9) (Commit (record { word = n }) (place_set_at bs (b + 2 + 8))) (simple (get_or (drop b bs) 0 0) (get_or bs (b + 2) 0)) }) (sym r)
+    ∙ ap (λ n. record { thread = get_or (drop b bs) 1 0; action = cond (eqb (get_or (drop b bs) 0 0) 9) (Commit (place_set_at (drop b bs) 2) (record { word = n })) (simple (get_or (drop b bs) 0 0) (get_or bs (b + 2) 0)) }) (sym w)
+    ∙ ap (λ n. record { thread = get_or (drop b bs) 1 0; action = cond (eqb (get_or (drop b bs) 0 0) 9) (Commit (place_set_at (drop b bs) 2) (place_set_at (drop b bs) 10)) (simple (get_or (drop b bs) 0 0) n) }) (sym x)
 
 module _ (bs rest : List ℕ) (b : ℕ) (e : Event) (fits : Words e.action) (here : drop b bs ≡ event_bytes e ++ rest) where
   kind_back : get_or bs b 0 ≡ kind e.action
@@ -180,7 +180,7 @@ file_parts counts events =
     (refl, first, second, third)
 
 -- what was written reads back: a lawful file of at most 65,536 bytes
-pub reads_back : (counts : List ℕ) (events : List Event) → AllByRecursion (λ e. Words e.action) events → length counts ≤ 256 → sum counts ≡ length events → length (file counts events) ≤ 65536 → Contains (file counts events) counts events
+pub reads_back : (counts : List ℕ) (events : List Event) → AllByRecursion (λ e. Words e.action) events → length counts ≤ 256 → sum counts ≡ length events → length (file counts events) ≤ 65536 → IsTraceOf (file counts events) counts events
 reads_back counts events fits few total short =
     let bs = file counts events in
     let n = length counts in
@@ -209,3 +209,9 @@ reads_back counts events fits few total short =
       total = total;
       reads = sections_back bs (opened bs e) counts events (origin bs) 0 fits total (omega arith) t.ends (sym (body_end_none bs)) bodies;
     }
+
+-- the same by the writer's test
+pub lawful_reads_back : (counts : List ℕ) (events : List Event) → AllByRecursion (λ e. Words e.action) events → lawful counts events ≡ true → length (file counts events) ≤ 65536 → IsTraceOf (file counts events) counts events
+lawful_reads_back counts events fits fine short =
+    let parts = and_parts _ _ fine in
+    reads_back counts events fits (leb-true _ _ parts.0) (eqb-true _ _ parts.1) short

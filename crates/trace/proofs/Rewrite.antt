@@ -11,11 +11,11 @@ use Rattle.events.specs.declared.Action.TheVariants.{Commit}
 use Rattle.trace.specs.declared.place.Place.{Place}
 use Rattle.trace.specs.Words.{bytes_of, word, Bytes}
 use Rattle.events.specs.Kinds.{kind}
-use Rattle.trace.specs.Codec.{operands, event_bytes, size, simple, set_at, action_at, decoded}
+use Rattle.trace.specs.Codec.{operands, event_bytes, size, simple, place_set_at, action_at, decoded}
 use Rattle.trace.specs.Layout.{count, entry_offset, entry_length, body_end, section_at}
 use Rattle.trace.specs.Reading.{origin, moved}
 use Rattle.trace.specs.File.{body, contents, file}
-use Rattle.trace.specs.Whole.{Reads, in_section, tagged, Contains}
+use Rattle.trace.specs.Whole.{Reads, in_section, tagged, IsTraceOf}
 use Rattle.trace.proofs.Numbers.{bytes_again}
 use Rattle.trace.proofs.Events.{length_event}
 use Rattle.trace.proofs.Entries.{body_end_none, body_end_more}
@@ -62,7 +62,7 @@ module _ (bs : List ℕ) (all : Bytes bs) where
       (λ nine.
       let yes = eq-eqb k 9 nine in
       let long : size k ≡ 18 = cond-true (eqb k 9) 18 3 yes in
-      let act : action_at bs k (b + 2) ≡ Commit (set_at bs (b + 2)) (set_at bs (b + 2 + 8)) = cond-true (eqb k 9) _ _ yes in
+      let act : action_at bs k (b + 2) ≡ Commit (place_set_at bs (b + 2)) (place_set_at bs (b + 2 + 8)) = cond-true (eqb k 9) _ _ yes in
       let sets = bytes_again bs 8 (b + 2) all (omega arith) in
       let sets' = bytes_again bs 8 (b + 2 + 8) all (omega arith) in
       let join = sym (take-add 8 8 (drop (b + 2) bs) ∙ ap (λ l. take 8 (drop (b + 2) bs) ++ take 8 l) (drop-drop 8 (b + 2) bs)) in
@@ -100,7 +100,7 @@ part_rest : (bs : List ℕ) (i k j : ℕ) → j ≡ i + k → take k (drop i bs)
 part_rest bs i k j e = ap (λ m. take k (drop i bs) ++ drop m bs) e ∙ ap (λ l. take k (drop i bs) ++ l) (sym (drop-drop k i bs)) ∙ take-append-drop k (drop i bs)
 
 -- sections are numbered upwards
-tags_after : (m s : ℕ) (counts : List ℕ) (es : List Event) → m < s → AllByRecursion (λ t. m < t.0) (tagged s counts es)
+pub tags_after : (m s : ℕ) (counts : List ℕ) (es : List Event) → m < s → AllByRecursion (λ t. m < t.0) (tagged s counts es)
 unfolding tagged
 tags_after m s [] es h = tt
 tags_after m s (c ∷ counts) es h =
@@ -110,7 +110,7 @@ tags_after m s (c ∷ counts) es h =
     each m s [] h = tt
     each m s (e ∷ es) h = (h, each m s es h)
 
-untagged : (s : ℕ) (counts : List ℕ) (es : List Event) → sum counts ≡ length es → map (λ t. t.1) (tagged s counts es) ≡ es
+pub untagged : (s : ℕ) (counts : List ℕ) (es : List Event) → sum counts ≡ length es → map (λ t. t.1) (tagged s counts es) ≡ es
 unfolding tagged
 untagged s [] es e = sym (nil_from_length es (sym e))
 untagged s (c ∷ counts) es e =
@@ -205,7 +205,7 @@ module _ (bs : List ℕ) (all : Bytes bs) (opens : Opened bs) where
       ∙ ap (λ m. take m (drop (4 + 8 * s) bs)) (sym whole)
 
 -- a file that reads whole, written again, is the same bytes
-pub rewritten : (bs counts : List ℕ) (events : List Event) → Bytes bs → Contains bs counts events → file counts events ≡ bs
+pub rewritten : (bs counts : List ℕ) (events : List Event) → Bytes bs → IsTraceOf bs counts events → file counts events ≡ bs
 unfolding file
 rewritten bs counts events all holds =
     let opens = opened bs holds.opens in

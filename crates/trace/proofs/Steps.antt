@@ -9,7 +9,7 @@ use Rattle.trace.specs.declared.fault.Refusal.{Refusal}
 use Rattle.trace.specs.declared.place.Place.{Place}
 use Rattle.trace.specs.Codec.{size, decoded, event_at}
 use Rattle.trace.specs.Layout.{count, body_end, opening, section_at}
-use Rattle.trace.specs.Reading.{sections_or, site, placed, origin, outside, entered, inside, taken, moved, kept, found, unless_refused, onward, behind, next, after}
+use Rattle.trace.specs.Reading.{sections_or, site, placed, origin, outside, entered, inside, taken, moved, kept, some_event, unless_refused, onward, behind, next, after}
 use Rattle.trace.proofs.Opened.{size_some}
 
 opened_by : (bytes : List ℕ) (o : Option Refusal) (n : ℕ) → sections_or bytes o ≡ Ok n → o ≡ None
@@ -20,7 +20,7 @@ either : {A : Type 0} (b : Bool) (x : A) → cond b x x ≡ x
 either true x = refl
 either false x = refl
 
-behind_stays : (b : Bool) (r : Result Event Refusal) (q m : Place) → ((e : Event) → cond b (found r) (Ok None) ≡ Ok (Some e) → ⊥) → cond b (kept r q m) q ≡ q
+behind_stays : (b : Bool) (r : Result Event Refusal) (q m : Place) → ((e : Event) → cond b (some_event r) (Ok None) ≡ Ok (Some e) → ⊥) → cond b (kept r q m) q ≡ q
 behind_stays true (Ok e) q m none = absurd (none e refl)
 behind_stays true (Err f) q m none = refl
 behind_stays false r q m none = refl

@@ -7,7 +7,7 @@ use Rattle.events.specs.declared.Event.{Event}
 use Rattle.trace.specs.declared.fault.WriteFault.TheVariants.{Oversize, NoRoom}
 use Rattle.trace.specs.declared.sheet.Sheet.{Sheet}
 use Rattle.trace.specs.Words.{bytes_of}
-use Rattle.trace.specs.File.{body, contents, file, lawful, written, laid}
+use Rattle.trace.specs.File.{body, contents, file, lawful, write_answer, laid}
 use Rattle.trace.specs.Sheets.{Adds}
 use Rattle.trace.proofs.Numbers.{length_bytes_of}
 use Rattle.trace.proofs.Bodies.{body_split}
@@ -85,16 +85,16 @@ length_file counts events =
     omega (arith, length_contents (4 + 8 * n) counts events)
 
 module _ (counts : List ℕ) (events : List Event) (room : ℕ) (fine : lawful counts events ≡ true) where
-  sized : written counts events room ≡ cond (ltb 65536 (length (file counts events))) (Err Oversize) (cond (ltb room (length (file counts events))) (Err NoRoom) (Ok (length (file counts events))))
+  sized : write_answer counts events room ≡ cond (ltb 65536 (length (file counts events))) (Err Oversize) (cond (ltb room (length (file counts events))) (Err NoRoom) (Ok (length (file counts events))))
   sized = cond-true (lawful counts events) _ _ fine
 
-  pub written_oversize : 65536 < length (file counts events) → written counts events room ≡ Err Oversize
+  pub written_oversize : 65536 < length (file counts events) → write_answer counts events room ≡ Err Oversize
   written_oversize h = sized ∙ cond-true (ltb 65536 (length (file counts events))) _ _ (lt-ltb _ _ h)
 
-  pub written_no_room : length (file counts events) ≤ 65536 → room < length (file counts events) → written counts events room ≡ Err NoRoom
+  pub written_no_room : length (file counts events) ≤ 65536 → room < length (file counts events) → write_answer counts events room ≡ Err NoRoom
   written_no_room h r = sized ∙ cond-false (ltb 65536 (length (file counts events))) _ _ (le-ltb _ _ h) ∙ cond-true (ltb room (length (file counts events))) _ _ (lt-ltb _ _ r)
 
-  pub written_ok : length (file counts events) ≤ 65536 → length (file counts events) ≤ room → written counts events room ≡ Ok (length (file counts events))
+  pub written_ok : length (file counts events) ≤ 65536 → length (file counts events) ≤ room → write_answer counts events room ≡ Ok (length (file counts events))
   written_ok h r = sized ∙ cond-false (ltb 65536 (length (file counts events))) _ _ (le-ltb _ _ h) ∙ cond-false (ltb room (length (file counts events))) _ _ (le-ltb _ _ r)
 
 pub length_header : (n : ℕ) → length (bytes_of 2 1 ++ bytes_of 2 n) ≡ 4

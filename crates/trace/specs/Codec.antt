@@ -39,12 +39,12 @@ simple k x =
     cond (k == 0) (Read x) (cond (k == 1) (Write x) (cond (k == 2) (Acquire x) (cond (k == 3) (Release x) (cond (k == 4) (ReadFlag x) (cond (k == 5) (WriteFlag x) (cond (k == 6) (Fork x) (cond (k == 7) (Join x) (Allocate x))))))))
 
 -- the set in the eight bytes from i on
-abbrev pub set_at : List ℕ → ℕ → PlaceSet
-set_at bytes i = record { word = word 8 bytes i }
+abbrev pub place_set_at : List ℕ → ℕ → PlaceSet
+place_set_at bytes i = record { word = word 8 bytes i }
 
 -- the action of kind k whose operands begin at i
 abbrev pub action_at : List ℕ → ℕ → ℕ → Action
-action_at bytes k i = cond (k == 9) (Commit (set_at bytes i) (set_at bytes (i + 8))) (simple k (slice_index bytes i))
+action_at bytes k i = cond (k == 9) (Commit (place_set_at bytes i) (place_set_at bytes (i + 8))) (simple k (slice_index bytes i))
 
 abbrev pub decoded : List ℕ → ℕ → Event
 decoded bytes b = record { thread = slice_index bytes (b + 1); action = action_at bytes (slice_index bytes b) (b + 2) }

@@ -3,7 +3,7 @@
 --   contents at counts events   the entries of sections with so many events each, the first body at `at`
 --   file counts events       the whole file
 --   lawful counts events     there are few enough sections, and they hold just the events
---   written counts events room   what the writer answers with a buffer of so many bytes
+--   write_answer counts events room   what the writer answers with a buffer of so many bytes
 --   laid out at bs           the buffer with the bytes bs from `at` on
 use Rattle.std.specs.Prelude.{ℕ, ◌+◌, ◌*◌, Bool, cond, ◌&&◌, List, [], ◌∷◌, ◌++◌, length, take, drop, Ok, Err, sum, Result, ◌==◌, nat_le, nat_lt}
 use Rattle.std.specs.List.{flat_map}
@@ -28,8 +28,8 @@ file counts events =
 abbrev pub lawful : List ℕ → List Event → Bool
 lawful counts events = nat_le (length counts) 256 && sum counts == length events
 
-abbrev pub written : List ℕ → List Event → ℕ → Result ℕ WriteFault
-written counts events room =
+abbrev pub write_answer : List ℕ → List Event → ℕ → Result ℕ WriteFault
+write_answer counts events room =
     cond (lawful counts events) (cond (nat_lt 65536 (length (file counts events))) (Err Oversize) (cond (nat_lt room (length (file counts events))) (Err NoRoom) (Ok (length (file counts events))))) (Err Counts)
 
 unfoldable pub laid : List ℕ → ℕ → List ℕ → List ℕ

@@ -46,9 +46,9 @@ opening bytes =
     cond (nat_lt 65536 (length bytes)) (Some (at_start TooLong 65536)) (cond (nat_lt (length bytes) 4) (Some (at_start Truncated (length bytes))) (cond (not (word 2 bytes 0 == 1)) (Some (at_start Edition 0)) (cond (nat_lt 256 (count bytes)) (Some (at_start Contents 2)) (cond (nat_lt (length bytes) (4 + 8 * count bytes)) (Some (at_start Truncated (length bytes))) (entries bytes (bad_entry bytes (count bytes) 0))))))
 
 -- how many of the first k sections end at or before b
-unfoldable pub ended : List ℕ → ℕ → ℕ → ℕ
-ended bytes zero b = 0
-ended bytes (suc k) b = ended bytes k b + cond (nat_le (body_end bytes (suc k)) b) 1 0
+unfoldable pub sections_ended : List ℕ → ℕ → ℕ → ℕ
+sections_ended bytes zero b = 0
+sections_ended bytes (suc k) b = sections_ended bytes k b + cond (nat_le (body_end bytes (suc k)) b) 1 0
 
 abbrev pub section_at : List ℕ → ℕ → ℕ
-section_at bytes b = 1 + ended bytes (count bytes) b
+section_at bytes b = 1 + sections_ended bytes (count bytes) b

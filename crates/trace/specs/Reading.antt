@@ -5,6 +5,7 @@
 --   moved bytes p      where the reader stands once that event is taken
 --   next bytes p       what reading on answers: an event, a refusal, or that there is no more
 --   after bytes p      where the reader stands after that answer: only a taken event moves it
+--   IsBetweenEvents bytes p   the place lies between two events, at or behind the end of every section before its own
 use Rattle.std.specs.Prelude.{ℕ, ◌+◌, ◌-◌, ◌*◌, ◌≤◌, cond, List, length, Some, None, Ok, Err, Option, Result, ◌==◌, nat_lt, slice_index}
 use Rattle.events.specs.declared.Event.{Event}
 use Rattle.trace.specs.declared.fault.TraceFault.{TraceFault}
@@ -48,9 +49,9 @@ taken bytes p = placed (site bytes p) (event_at bytes p.byte (body_end bytes (se
 abbrev pub moved : List ℕ → Place → Place
 moved bytes p = record { section = section_at bytes p.byte; events = p.events + 1; byte = p.byte + size (slice_index bytes p.byte) }
 
-abbrev pub found : Result Event Refusal → Result (Option Event) Refusal
-found (Ok e) = Ok (Some e)
-found (Err f) = Err f
+abbrev pub some_event : Result Event Refusal → Result (Option Event) Refusal
+some_event (Ok e) = Ok (Some e)
+some_event (Err f) = Err f
 
 -- p stays, unless an event was taken and q is behind it
 abbrev pub kept : Result Event Refusal → Place → Place → Place
@@ -59,7 +60,7 @@ kept (Err f) p q = p
 
 -- reading on inside the file
 abbrev pub onward : List ℕ → Place → Result (Option Event) Refusal
-onward bytes p = cond (nat_lt p.byte (length bytes)) (found (taken bytes p)) (Ok None)
+onward bytes p = cond (nat_lt p.byte (length bytes)) (some_event (taken bytes p)) (Ok None)
 
 abbrev pub behind : List ℕ → Place → Place
 behind bytes p = cond (nat_lt p.byte (length bytes)) (kept (taken bytes p) p (moved bytes p)) p
@@ -75,6 +76,5 @@ next bytes p = unless_refused (opening bytes) Err (onward bytes (inside bytes p)
 abbrev pub after : List ℕ → Place → Place
 after bytes p = unless_refused (opening bytes) (λ _. p) (behind bytes (inside bytes p))
 
--- the place lies between two events, at or behind the end of every section before its own
-abbrev pub Stands : List ℕ → Place → Type 0
-Stands bytes p = (p.section ≤ count bytes) × (body_end bytes (p.section - 1) ≤ p.byte) × (p.byte ≤ length bytes) × (p.events ≤ p.byte)
+abbrev pub IsBetweenEvents : List ℕ → Place → Type 0
+IsBetweenEvents bytes p = (p.section ≤ count bytes) × (body_end bytes (p.section - 1) ≤ p.byte) × (p.byte ≤ length bytes) × (p.events ≤ p.byte)

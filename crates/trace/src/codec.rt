@@ -1,7 +1,7 @@
 // One event as bytes. The definitions say by its place in the whole file where each number stands, so the functions here take
 // the whole file and a place, and no shorter slice.
 ghost use Rattle.std.specs.Prelude.{◌≡◌, ◌+◌, ◌<◌, ◌≤◌, true, length, is_ok, slice_index};
-ghost use Rattle.trace.specs.Codec.{size, set_at, action_at, event_at};
+ghost use Rattle.trace.specs.Codec.{size, place_set_at, action_at, event_at};
 ghost use Rattle.trace.specs.Kinds.{code};
 
 use crate::fault::TraceFault;
@@ -13,7 +13,7 @@ use events::{Action, Event, PlaceSet};
 // The set whose eight bytes begin at `at`.
 fn read_set(bytes: &[u8], at: usize) -> PlaceSet
     requires { at + 8 ≤ length bytes.now }
-    ensures { result ≡ set_at bytes.now at }
+    ensures { result ≡ place_set_at bytes.now at }
 {
     PlaceSet {
         word: u64::from_le_bytes(chunk(bytes, at)),

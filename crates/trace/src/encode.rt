@@ -11,8 +11,8 @@ use crate::layout::EDITION;
 use crate::sheet::Sheet;
 use events::{Action, Event};
 
-// How many bytes the event takes.
-fn event_size(event: &Event) -> usize
+// How many bytes the event takes in a file.
+pub fn event_size(event: &Event) -> usize
     ensures value { result ≡ length (event_bytes event.now) }
     ensures bound { result ≤ 18 }
 {

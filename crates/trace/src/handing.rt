@@ -2,7 +2,7 @@
 ghost use Rattle.std.specs.Prelude.{◌≡◌, ◌<◌, length, Some, Ok, Result as AResult};
 ghost use Rattle.events.specs.declared.Event.{Event as AnEvent};
 ghost use Rattle.trace.specs.declared.fault.Site.{Site as ASite};
-ghost use Rattle.trace.specs.Reading.{site, taken, moved, found};
+ghost use Rattle.trace.specs.Reading.{site, taken, moved, some_event};
 ghost use Rattle.trace.specs.Handing.{HandedAs, Handed};
 
 use crate::codec::read_event;
@@ -37,7 +37,7 @@ impl Reader<'_> {
         taker: &mut T,
     ) -> Result<bool, E>
         requires { (0 < self.old.at.byte) × (self.old.at.byte < length self.old.bytes.now) }
-        ensures handed { HandedAs T.Taker.took E.From.from_gives (found (taken self.old.bytes.now self.old.at)) (site self.old.bytes.now self.old.at) self.old.at (moved self.old.bytes.now self.old.at) taker.old taker.new self.new.at result }
+        ensures handed { HandedAs T.Taker.took E.From.from_gives (some_event (taken self.old.bytes.now self.old.at)) (site self.old.bytes.now self.old.at) self.old.at (moved self.old.bytes.now self.old.at) taker.old taker.new self.new.at result }
         ensures bytes { self.new.bytes.now ≡ self.old.bytes.now }
     {
         let section = self.section();

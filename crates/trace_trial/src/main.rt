@@ -6,7 +6,7 @@ mod files;
 use events::{Action, Event};
 use files::{empties, reads};
 use handmade::{single, told};
-use trace::{Reader, read_whole, write};
+use trace::{Reader, read_front, read_whole, write};
 
 // How a file reads: its events and sections, or why it does not.
 fn show(rt: &HostRuntime, name: &str, bytes: &[u8]) -> anyhow::Result<()> {
@@ -88,6 +88,47 @@ fn bodies(rt: &HostRuntime) -> anyhow::Result<()> {
     Ok(())
 }
 
+// What a file holds up to its end or its first refusal: how many events each section has, and how it ends.
+fn show_front(rt: &HostRuntime, name: &str, bytes: &[u8]) -> anyhow::Result<()> {
+    let front = read_front(rt.alloc(), bytes)?;
+    let events = front.trace.events.len();
+    print!(rt; "{name}: events {events}, by section")?;
+    for count in &front.trace.counts {
+        print!(rt; " {count}")?;
+    }
+    match front.end {
+        Some(refusal) => println!(rt; ", then {refusal}")?,
+        None => println!(rt; ", then the end")?,
+    }
+    Ok(())
+}
+
+fn fronts(rt: &HostRuntime) -> anyhow::Result<()> {
+    let heap = rt.alloc();
+    let files: [(&str, &[(u32, u32)], &[u8]); 4] = [
+        (
+            "refused behind an empty section",
+            &[(28, 0), (28, 3), (31, 1)],
+            &[0, 0, 5, 255],
+        ),
+        (
+            "refused before an empty section",
+            &[(28, 4), (32, 3), (35, 0)],
+            &[0, 0, 5, 255, 1, 0, 5],
+        ),
+        (
+            "empty last sections",
+            &[(28, 3), (31, 0), (31, 0)],
+            &[0, 0, 5],
+        ),
+        ("wrong last entry", &[(28, 3), (31, 0), (30, 0)], &[0, 0, 5]),
+    ];
+    for (name, entries, body) in files {
+        show_front(rt, name, told(heap, 3, entries, body)?.as_slice())?;
+    }
+    Ok(())
+}
+
 // A refused event is found again at the same place, however often it is asked for.
 fn again(rt: &HostRuntime) -> anyhow::Result<()> {
     let file = single(rt.alloc(), &[0, 0, 5, 9, 0])?;
@@ -156,6 +197,7 @@ fn main(rt: HostRuntime) -> anyhow::Result<()> {
     headers(&rt)?;
     entries(&rt)?;
     bodies(&rt)?;
+    fronts(&rt)?;
     again(&rt)?;
     writes(&rt)
 }
