@@ -1,8 +1,9 @@
 -- What a file holds up to its end, or up to its first refusal. Assumes nothing.
---   StopsAt bytes counts events f   the file opens, and these events are read, in sections of so many each, up to the refused event of f;
---                                   the last count is of the section in which that event lies, so every section before it has its own
---   IsFrontOf bytes counts events end   up to its end the file is the trace of these counts and events; up to a refusal it holds just
---                                   these, or it doesn't open and there are none
+--   StopsAt bytes counts events f   the file opens, and these events are read, in sections of so many each, up to the refused
+--                                   event of f; the last count is of the section in which that event lies, so every section
+--                                   before it has its own
+--   IsFrontOf bytes counts events end   up to its end the file is the trace of these counts and events; up to a refusal it
+--                                   holds just these, or it doesn't open and there are none
 use Rattle.std.specs.Prelude.{◌≡◌, ℕ, ◌⊎◌, List, [], length, Some, None, sum, Option}
 use Rattle.events.specs.declared.Event.{Event}
 use Rattle.trace.specs.declared.fault.Refusal.{Refusal}

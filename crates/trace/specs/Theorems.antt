@@ -1,7 +1,7 @@
 -- Statements about trace files that stand beside the calls' promises, and speak of no memory. Assumes nothing.
 --   sections_until bytes end   how many sections there are up to the end, or up to the refusal, whose section is the last
---   ReadOn bytes p ts end      a reader at p, asked for the next event again and again, gives the events ts, each from its section, and
---                              then tells that there is no more, or the refusal
+--   ReadOn bytes p ts end      a reader at p, asked for the next event again and again, gives the events ts, each from its
+--                              section, and then tells that there is no more, or the refusal
 use Rattle.std.specs.Prelude.{◌≡◌, ℕ, ◌≤◌, ◌↔◌, true, List, [], ◌∷◌, length, Some, None, Ok, Err, sum, Option, Result}
 use Rattle.std.specs.List.{AllByRecursion}
 use Rattle.events.specs.declared.Event.{Event}
@@ -36,19 +36,25 @@ Rewritten =
 -- what is written is the trace of just the counts and events that were to be written
 abbrev pub ReadBack : Type 0
 ReadBack =
-    (counts : List ℕ) (events : List Event) → AllByRecursion (λ e. Words e.action) events → lawful counts events ≡ true → length (file counts events) ≤ 65536 → IsTraceOf (file counts events) counts events
+    (counts : List ℕ) (events : List Event) → AllByRecursion (λ e. Words e.action) events
+    → lawful counts events ≡ true → length (file counts events) ≤ 65536 → IsTraceOf (file counts events) counts events
 
 -- reading any file comes to its end or to a refusal, and so every file has a front
 abbrev pub EveryFront : Type 0
 EveryFront =
     (bytes : List ℕ) → (counts : List ℕ) × (events : List Event) × (end : Option Refusal) × IsFrontOf bytes counts events end
 
--- a file has one front: it determines the counts, the events, and the refusal if there is one; so too where the front is the whole
+-- a file has one front: it determines the counts, the events, and the refusal if there is one; without one the front is
+-- the whole, and so it determines what it is the trace of
 abbrev pub OneFront : Type 0
 OneFront =
-    (bytes counts counts' : List ℕ) (events events' : List Event) (end end' : Option Refusal) → IsFrontOf bytes counts events end → IsFrontOf bytes counts' events' end' → (counts ≡ counts') × (events ≡ events') × (end ≡ end')
+    (bytes counts counts' : List ℕ) (events events' : List Event) (end end' : Option Refusal)
+    → IsFrontOf bytes counts events end → IsFrontOf bytes counts' events' end'
+    → (counts ≡ counts') × (events ≡ events') × (end ≡ end')
 
 -- a front holds just what a reader gives that is asked for the next event from before the file on
 abbrev pub FrontIsReadOn : Type 0
 FrontIsReadOn =
-    (bytes counts : List ℕ) (events : List Event) (end : Option Refusal) → IsFrontOf bytes counts events end ↔ ((length counts ≡ sections_until bytes end) × (sum counts ≡ length events) × ReadOn bytes outside (tagged 1 counts events) end)
+    (bytes counts : List ℕ) (events : List Event) (end : Option Refusal)
+    → IsFrontOf bytes counts events end
+    ↔ ((length counts ≡ sections_until bytes end) × (sum counts ≡ length events) × ReadOn bytes outside (tagged 1 counts events) end)
