@@ -4,37 +4,16 @@
 #![tactic(auto)]
 
 mod calls;
+mod show;
 mod steps;
+mod text;
 mod words;
 
-use anyhow::ensure;
-use calls::listed;
-use clocks::Clocks;
-use monitor::{Reply, answer_all};
-use std::slice;
-use steps::{PARTS, Part, STEPS};
-use words::Answer;
-
-// Tells the calls of a part with the next answers.
-fn tell(rt: &HostRuntime, part: &Part, replies: &mut slice::Iter<Reply>) -> anyhow::Result<()> {
-    println!(rt; "{}", part.title)?;
-    for (step, reply) in part.steps.iter().zip(replies) {
-        println!(rt; "  {step} {}", Answer(*reply))?;
-    }
-    Ok(())
-}
+use show::text_of;
+use steps::PARTS;
 
 fn main(rt: HostRuntime) -> anyhow::Result<()> {
-    // Room for the replies comes first: once calls are listed, want of memory would have to let them go.
-    let mut replies = Vec::with_capacity(rt.alloc(), STEPS)?;
-    let calls = listed(rt.alloc(), &PARTS)?;
-    ensure!(
-        answer_all(Clocks::new(), calls, &mut replies).is_ok(),
-        "less room than calls"
-    );
-    let mut told = replies.iter();
-    for part in &PARTS {
-        tell(&rt, part, &mut told)?;
-    }
+    let text = text_of(rt.alloc(), &PARTS)?;
+    print!(rt; "{text}")?;
     Ok(())
 }

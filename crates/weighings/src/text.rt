@@ -1,0 +1,47 @@
+// The text of the parts with the replies to their steps.
+ghost use Rattle.std.specs.Prelude.{Some};
+ghost use Rattle.weighings.specs.Texts.{part_text, demo_text};
+
+use crate::steps::Part;
+use crate::words::Answer;
+use monitor::Reply;
+use std::fmt;
+
+// A part with the replies from its first step's on.
+#[derive(Drop)]
+struct PartTold<'a> {
+    part: &'a Part,
+    replies: &'a [Reply],
+}
+
+impl fmt::Display for PartTold<'_> {
+    ghost output = { λ t. Some (part_text t.part.now t.replies.now) };
+
+    fn fmt<W: fmt::Write>(&self, f: &mut fmt::Formatter<W>) -> fmt::Result {
+        writeln!(f, "{}", self.part.title)?;
+        for (step, reply) in self.part.steps.iter().zip(self.replies) {
+            writeln!(f, "  {step} {}", Answer(*reply))?;
+        }
+        Ok(())
+    }
+}
+
+// All parts with all replies.
+#[derive(Drop)]
+pub(crate) struct AllTold<'a> {
+    pub(crate) parts: &'a [Part],
+    pub(crate) replies: &'a [Reply],
+}
+
+impl fmt::Display for AllTold<'_> {
+    ghost output = { λ t. Some (demo_text t.parts.now t.replies.now) };
+
+    fn fmt<W: fmt::Write>(&self, f: &mut fmt::Formatter<W>) -> fmt::Result {
+        let mut replies = self.replies;
+        for part in self.parts {
+            write!(f, "{}", PartTold { part, replies })?;
+            replies = replies.get(part.steps.len()..).unwrap_or(&[]);
+        }
+        Ok(())
+    }
+}
