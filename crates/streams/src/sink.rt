@@ -1,5 +1,5 @@
 // What takes bytes.
-ghost use Rattle.std.specs.Prelude.{ℕ, List, IsOk, Option};
+ghost use Rattle.std.specs.Prelude.{ℕ, List, IsOk, OnOk, Option};
 ghost use Rattle.std.specs.Io.{WritesAtMost};
 ghost use Rattle.std.specs.Io.KnownBytes.{Keeps, WriteAppends};
 ghost use Rattle.streams.specs.Told.{TakesSome};
@@ -13,6 +13,9 @@ pub trait Sink {
     // no write or flush fails from here on, and each write takes some of its bytes
     ghost steady: { Self → Type 0 };
 
+    // all that it has taken was passed on
+    ghost flushed: { Self → Type 0 };
+
     // Takes some bytes from the front of these and tells how many.
     fn write(&mut self, bytes: &[u8]) -> io::Result<usize>
         ensures bound { WritesAtMost result bytes.now }
@@ -22,5 +25,6 @@ pub trait Sink {
     // Passes on what it has taken.
     fn flush(&mut self) -> io::Result<()>
         ensures bytes { Keeps (contents self.old) (contents self.new) }
+        ensures flushed { OnOk result (flushed self.new) }
         ensures steady { steady self.old → IsOk result × steady self.new };
 }

@@ -1,6 +1,4 @@
 // The system's own readers and writers. Any read or write of them may fail, so they are never steady.
-ghost use Rattle.std.specs.Prelude.{};
-
 use crate::sink::Sink;
 use crate::source::Source;
 use std::io;
@@ -23,6 +21,9 @@ impl<W: Write> Sink for System<W> {
     ghost contents = { λ s. W.contents s.0 };
 
     ghost steady = { λ _. ⊥ };
+
+    // a `Write` tells no more of it
+    ghost flushed = { λ _. Unit {0} };
 
     fn write(&mut self, bytes: &[u8]) -> io::Result<usize> {
         self.0.write(bytes)

@@ -1,5 +1,5 @@
 // Writing all of some bytes.
-ghost use Rattle.std.specs.Prelude.{IsOk};
+ghost use Rattle.std.specs.Prelude.{IsOk, OnOk};
 ghost use Rattle.streams.specs.Told.{GoesOn, WritesWhole};
 
 use crate::sink::Sink;
@@ -28,6 +28,7 @@ fn write_out<W: Sink>(sink: &mut W, bytes: &[u8]) -> Result<()>
 // is tried again.
 pub fn write_whole<W: Sink>(sink: &mut W, bytes: &[u8]) -> Result<()>
     ensures writes { WritesWhole (W.contents sink.old) (W.contents sink.new) result bytes.now }
+    ensures flushed { OnOk result (W.flushed sink.new) }
     ensures steady { W.steady sink.old → IsOk result × W.steady sink.new }
 {
     write_out(sink, bytes)?;

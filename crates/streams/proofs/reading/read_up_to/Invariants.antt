@@ -1,5 +1,5 @@
 -- What was read stands at the buffer's front; each turn fills some room or spends a try.
-use Rattle.std.proofs.Common.{◌≡◌, ◌+◌, ◌-◌, ◌≤◌, length, take}
+use Rattle.std.proofs.Common.{◌+◌, ◌-◌, ◌≤◌, length, take}
 use Rattle.std.specs.Io.KnownBytes.{Consumes}
 use Rattle.streams.proofs.reading.read_up_to.Given as goal
 
