@@ -1,8 +1,9 @@
 -- Fronts of a buffer that grow by one read or write more. Assumes nothing.
-use Rattle.std.proofs.Common.{◌≡◌, ℕ, ◌+◌, List, ◌++◌, length, take, drop, Option, Some, None, Result, Ok, Err, sym, ap, ◌∙◌, subst, le_refl, arith, ◌<◌, ◌≤◌, ◌-◌, min}
-use Rattle.std.proofs.Math.Seq.{take-add, take-append-add}
+use Rattle.std.proofs.Common.{◌≡◌, ℕ, ◌+◌, List, ◌++◌, length, take, drop, Option, Some, None, Result, Ok, Err, sym, ap, ◌∙◌, subst, le_refl, arith, ◌<◌, ◌≤◌, ◌-◌, min, [], IfSome, ⊎_elim, drop_of_length-le, append-nil, length-take-le}
+use Rattle.std.proofs.Math.Seq.{take-add, take-append-add, take-append_seam, drop-append_seam}
 use Rattle.std.proofs.lemmas.List.{append_assoc, take-append-le, take_all, take_min, take_rest, length-drop}
-use Rattle.std.specs.Io.KnownBytes.{Appends, Consumes, Keeps}
+use Rattle.std.specs.Io.KnownBytes.{Appends, Consumes, IsAtEnd, Keeps}
+use Rattle.std.proofs.lemmas.Bool.{cases_lt}
 use Rattle.streams.specs.Told.{AppendsFront, WritesWhole}
 
 joins : (xs : List ℕ) (at n : ℕ) → take at xs ++ take n (drop at xs) ≡ take (at + n) xs
@@ -61,3 +62,27 @@ pub flushed : {E : Type 0} (a b c : Option (List ℕ)) (bytes : List ℕ) (r : R
     → Appends a b bytes → Keeps b c → WritesWhole a c r bytes
 flushed a b c bytes (Ok x) p q = appends_kept a b c bytes p q
 flushed a b c bytes (Err e) p q = (length bytes, subst (Appends a c) (sym (take_all (length bytes) bytes (le_refl (length bytes)))) (appends_kept a b c bytes p q))
+
+-- a list is its front of k elements and the others
+split_at : (k : ℕ) (xs front rest : List ℕ) → length front ≡ k → xs ≡ front ++ rest → (take k xs ≡ front) × (drop k xs ≡ rest)
+split_at k xs front rest long is =
+    (ap (take k) is ∙ ap (λ n. take n (front ++ rest)) (sym long) ∙ take-append_seam front rest, ap (drop k) is ∙ ap (λ n. drop n (front ++ rest)) (sym long) ∙ drop-append_seam front rest)
+
+all_of : (k : ℕ) (xs front rest : List ℕ) → length front ≤ k → xs ≡ front ++ rest → rest ≡ [] → (take k xs ≡ front) × (drop k xs ≡ rest)
+all_of k xs front rest few is none =
+    let all : xs ≡ front = is ∙ ap (λ l. front ++ l) none ∙ append-nil front in
+    (ap (take k) all ∙ take_all k front few, ap (drop k) all ∙ drop_of_length-le front few ∙ sym none)
+
+-- a buffer that was filled up to its end or the source's holds the source's first bytes, and the source has the others left
+pub first_read : (a b : Option (List ℕ)) (buf : List ℕ) (n : ℕ) → n ≤ length buf → Consumes a b (take n buf) → (n < length buf → IsAtEnd b)
+    → IfSome a (λ xs. (take n buf ≡ take (length buf) xs) × (b ≡ Some (drop (length buf) xs)))
+first_read None b buf n fits read end = tt
+first_read (Some xs) None buf n fits read end = absurd read
+first_read (Some xs) (Some ys) buf n fits read end =
+    let long = length-take-le n buf fits in
+    let both : (take (length buf) xs ≡ take n buf) × (drop (length buf) xs ≡ ys) =
+    ⊎_elim
+    (λ some. all_of (length buf) xs (take n buf) ys (omega arith) read (end some))
+    (λ full. split_at (length buf) xs (take n buf) ys (omega arith) read)
+    (cases_lt n (length buf)) in
+    (sym both.0, ap Some (sym both.1))
