@@ -50,11 +50,11 @@ told_next zero (p ∷ ps) rs d l = sym (append-nil (part_text p rs))
 told_next (suc n) (p ∷ ps) rs d l =
     append_assoc (part_text p rs) _ _ ∙ ap (λ t. part_text p rs ++ t) (told_next n ps (drop (length p.steps.now) rs) d (omega arith))
 
-pub left_more : (n : ℕ) (ps : List Part) (rs : List Reply) (d : Part) → n < length ps → drop (length (get_or ps n d).steps.now) (left_after n ps rs) ≡ left_after (n + 1) ps rs
-left_more n ps rs d l = rw add-one (left_next n ps rs d l)
+pub left_more : (n : ℕ) (ps : List Part) (rs rest : List Reply) (d : Part) → n < length ps → rest ≡ left_after n ps rs → drop (length (get_or ps n d).steps.now) rest ≡ left_after (n + 1) ps rs
+left_more n ps rs rest d l is = ap (drop (length (get_or ps n d).steps.now)) is ∙ rw add-one (left_next n ps rs d l)
 
-pub told_more : (n : ℕ) (ps : List Part) (rs : List Reply) (d : Part) → n < length ps → told_upto n ps rs ++ part_text (get_or ps n d) (left_after n ps rs) ≡ told_upto (n + 1) ps rs
-told_more n ps rs d l = rw add-one (told_next n ps rs d l)
+pub told_more : (n : ℕ) (ps : List Part) (rs rest : List Reply) (d : Part) → n < length ps → rest ≡ left_after n ps rs → told_upto n ps rs ++ part_text (get_or ps n d) rest ≡ told_upto (n + 1) ps rs
+told_more n ps rs rest d l is = ap (λ r. told_upto n ps rs ++ part_text (get_or ps n d) r) is ∙ rw add-one (told_next n ps rs d l)
 
 pub told_all : (n : ℕ) (ps : List Part) (rs : List Reply) → length ps ≤ n → told_upto n ps rs ≡ demo_text ps rs
 unfolding told_upto demo_text

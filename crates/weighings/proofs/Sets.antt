@@ -24,7 +24,7 @@ no_bit w p l h = grind (arith, nat_tests)
 pub place_more : (s : PlaceSet) (p : ℕ) → p < 64 → member s.word p ≡ true → with_place (below s p) p ≡ below s (p + 1)
 place_more s p l h =
     let more : bit_or (s.word % 2 ^ p) (1 * 2 ^ p) ≡ s.word % 2 ^ (1 + p) =
-        or_shifted_r 1 p (s.word % 2 ^ p) (mod-lt s.word (pow_pos p)) ∙ sym (bit s.word p 1 (has_bit s.word p h)) in
+    or_shifted_r 1 p (s.word % 2 ^ p) (mod-lt s.word (pow_pos p)) ∙ sym (bit s.word p 1 (has_bit s.word p h)) in
     cond-true (ltb p 64) _ _ (lt-ltb p 64 l) ∙ ap (λ w. record { word = w }) (ap (bit_or (s.word % 2 ^ p)) (omega arith) ∙ more ∙ ap (λ n. s.word % 2 ^ n) (omega arith))
 
 pub place_missing : (s : PlaceSet) (p : ℕ) → p < 64 → member s.word p ≡ false → below s p ≡ below s (p + 1)

@@ -9,11 +9,11 @@ mod steps;
 mod text;
 mod words;
 
-use show::text_of;
+use show::show;
+use std::io;
 use steps::PARTS;
+use streams::System;
 
-fn main(rt: HostRuntime) -> anyhow::Result<()> {
-    let text = text_of(rt.alloc(), &PARTS)?;
-    print!(rt; "{text}")?;
-    Ok(())
+fn main(rt: HostRuntime) -> io::Result<()> {
+    Ok(show(rt.alloc(), &PARTS, &mut System(rt.stdout()))?)
 }

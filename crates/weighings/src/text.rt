@@ -1,5 +1,5 @@
 // The text of the parts with the replies to their steps.
-ghost use Rattle.std.specs.Prelude.{Some};
+ghost use Rattle.std.specs.Prelude.{◌≡◌, drop, Some};
 ghost use Rattle.weighings.specs.Texts.{part_text, demo_text};
 
 use crate::steps::Part;
@@ -26,6 +26,13 @@ impl fmt::Display for PartTold<'_> {
     }
 }
 
+// The replies after the first n.
+fn after(replies: &[Reply], n: usize) -> &[Reply]
+    ensures { result.now ≡ drop n replies.now }
+{
+    replies.get(n..).unwrap_or(&[])
+}
+
 // All parts with all replies.
 #[derive(Drop)]
 pub(crate) struct AllTold<'a> {
@@ -40,7 +47,7 @@ impl fmt::Display for AllTold<'_> {
         let mut replies = self.replies;
         for part in self.parts {
             write!(f, "{}", PartTold { part, replies })?;
-            replies = replies.get(part.steps.len()..).unwrap_or(&[]);
+            replies = after(replies, part.steps.len());
         }
         Ok(())
     }

@@ -1,4 +1,4 @@
-use Rattle.std.proofs.Common.{rules, sym, ap, ◌∙◌, arith}
+use Rattle.std.proofs.Common.{refl, sym, ◌∙◌, arith}
 use Rattle.std.proofs.Output.{writes_in_calls_nil, has_written_append, has_written_of_eq}
 use Rattle.weighings.proofs.Parts.{left_none, left_more, told_none, told_more, told_all}
 use Rattle.weighings.proofs.text.AllToldDisplay.fmt.Goals as goal
@@ -10,10 +10,15 @@ loop-part-init g c = record {
 }
 
 pub loop-part-preserved : goal.loop-part-preserved
-loop-part-preserved g c = let l = c.get.ensures.lookup in let u = c.unwrap_or-replies.ensures in record {
-  passed = ?;
-  wrote = λ plain. has_written_of_eq _ _ _ _ _ (told_more c.loop-part.part-index c.args.self.now.parts.now c.args.self.now.replies.now _ (omega arith)) (has_written_append _ _ _ _ _ _ (c.loop-part.invariant.wrote plain) ?);
-}
+loop-part-preserved g c =
+    let ps = c.args.self.now.parts.now in
+    let rs = c.args.self.now.replies.now in
+    let n = c.loop-part.part-index in
+    let sofar = c.loop-part.invariant in
+    record {
+      passed = c.after-replies.ensures ∙ left_more n ps rs c.loop-part.replies.now _ (omega arith) sofar.passed;
+      wrote = λ plain. has_written_of_eq _ _ _ _ _ (told_more n ps rs c.loop-part.replies.now _ (omega arith) sofar.passed) (has_written_append _ _ _ _ _ _ (sofar.wrote plain) (c.in_ok-write.ensures.writes (sofar.wrote plain).plain refl));
+    }
 
 pub returns-clause-writes : goal.returns-clause-writes
 returns-clause-writes g c plain _ =
