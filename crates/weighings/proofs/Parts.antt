@@ -1,11 +1,12 @@
 -- The text of parts, one after another. Assumes nothing.
-use Rattle.std.proofs.Common.{◌≡◌, ℕ, zero, suc, ◌+◌, ◌<◌, ◌≤◌, min, List, [], ◌∷◌, ◌++◌, length, get_or, take, drop, refl, sym, ap, ◌∙◌, arith, add-one}
+use Rattle.std.proofs.Common.{◌≡◌, ℕ, ◌+◌, ◌<◌, min, List, [], ◌∷◌, ◌++◌, length, get_or, take, drop, refl, sym, ap, ◌∙◌, arith}
 use Rattle.std.specs.List.{flat_map, zip}
-use Rattle.std.proofs.lemmas.List.{append-nil, append_assoc, flat_map_more, take_more, take_all}
+use Rattle.std.proofs.lemmas.List.{append-nil, append_assoc, drop-drop, flat_map_more, length-append, take_more, take_all}
 use Rattle.std.proofs.lemmas.Slice.Zip.{length-zip, get_or-zip}
 use Rattle.monitor.specs.declared.session.Reply.{Reply}
 use Rattle.weighings.specs.declared.steps.Part.{Part}
 use Rattle.weighings.specs.declared.steps.Step.{Step}
+use Rattle.weighings.specs.Steps.{steps_of}
 use Rattle.weighings.specs.Texts.{line_text, part_text, demo_text}
 
 -- the line of one more step
@@ -18,47 +19,29 @@ lines_more ss rs n s r l m es er =
 pub lines_all : (ss : List Step) (rs : List Reply) (n : ℕ) → n ≡ min (length ss) (length rs) → flat_map line_text (take n (zip ss rs)) ≡ flat_map line_text (zip ss rs)
 lines_all ss rs n all = ap (flat_map line_text) (take_all n (zip ss rs) (omega (arith, length-zip ss rs)))
 
--- the replies that are left after those to the first n parts, and the text of these
-pub left_after : ℕ → List Part → List Reply → List Reply
-left_after zero ps rs = rs
-left_after (suc n) [] rs = rs
-left_after (suc n) (p ∷ ps) rs = left_after n ps (drop (length p.steps.now) rs)
+-- the replies that are left after those to the steps of the parts
+abbrev pub rest_after : List Part → List Reply → List Reply
+rest_after ps rs = drop (length (flat_map steps_of ps)) rs
 
-pub told_upto : ℕ → List Part → List Reply → List ℕ
-told_upto zero ps rs = []
-told_upto (suc n) [] rs = []
-told_upto (suc n) (p ∷ ps) rs = part_text p rs ++ told_upto n ps (drop (length p.steps.now) rs)
+rest_next : (ps : List Part) (p : Part) (rs : List Reply) → drop (length p.steps.now) (rest_after ps rs) ≡ rest_after (ps ++ p ∷ []) rs
+rest_next ps p rs =
+    drop-drop (length p.steps.now) (length (flat_map steps_of ps)) rs ∙ ap (λ n. drop n rs) (sym (length-append (flat_map steps_of ps) p.steps.now) ∙ ap length (flat_map_more steps_of [] ps p))
 
-pub left_none : (ps : List Part) (rs : List Reply) → rs ≡ left_after 0 ps rs
-unfolding left_after
-left_none ps rs = refl
+text_next : (ps : List Part) (p : Part) (rs : List Reply) → demo_text ps rs ++ part_text p (rest_after ps rs) ≡ demo_text (ps ++ p ∷ []) rs
+unfolding demo_text
+text_next [] p rs = sym (append-nil (part_text p rs))
+text_next (q ∷ ps) p rs =
+    let n = length q.steps.now in
+    append_assoc (part_text q rs) _ _ ∙ ap (λ l. part_text q rs ++ (demo_text ps (drop n rs) ++ part_text p l)) (ap (λ m. drop m rs) (length-append q.steps.now (flat_map steps_of ps)) ∙ sym (drop-drop (length (flat_map steps_of ps)) n rs)) ∙ ap (λ t. part_text q rs ++ t) (text_next ps p (drop n rs))
 
-pub told_none : (ps : List Part) (rs : List Reply) → told_upto 0 ps rs ≡ []
-unfolding told_upto
-told_none ps rs = refl
+pub rest_more : (ps : List Part) (n : ℕ) (rs rest : List Reply) (d : Part) → n < length ps → rest ≡ rest_after (take n ps) rs → drop (length (get_or ps n d).steps.now) rest ≡ rest_after (take (n + 1) ps) rs
+rest_more ps n rs rest d l is =
+    ap (drop (length (get_or ps n d).steps.now)) is ∙ rest_next (take n ps) (get_or ps n d) rs ∙ ap (λ qs. rest_after qs rs) (sym (take_more ps n d l))
 
-left_next : (n : ℕ) (ps : List Part) (rs : List Reply) (d : Part) → n < length ps → drop (length (get_or ps n d).steps.now) (left_after n ps rs) ≡ left_after (suc n) ps rs
-unfolding left_after
-left_next n [] rs d l = absurd (omega arith)
-left_next zero (p ∷ ps) rs d l = refl
-left_next (suc n) (p ∷ ps) rs d l = left_next n ps (drop (length p.steps.now) rs) d (omega arith)
+pub text_more : (ps : List Part) (n : ℕ) (rs rest : List Reply) (d : Part) → n < length ps → rest ≡ rest_after (take n ps) rs → demo_text (take n ps) rs ++ part_text (get_or ps n d) rest ≡ demo_text (take (n + 1) ps) rs
+text_more ps n rs rest d l is =
+    ap (λ r. demo_text (take n ps) rs ++ part_text (get_or ps n d) r) is ∙ text_next (take n ps) (get_or ps n d) rs ∙ ap (λ qs. demo_text qs rs) (sym (take_more ps n d l))
 
-told_next : (n : ℕ) (ps : List Part) (rs : List Reply) (d : Part) → n < length ps → told_upto n ps rs ++ part_text (get_or ps n d) (left_after n ps rs) ≡ told_upto (suc n) ps rs
-unfolding told_upto left_after
-told_next n [] rs d l = absurd (omega arith)
-told_next zero (p ∷ ps) rs d l = sym (append-nil (part_text p rs))
-told_next (suc n) (p ∷ ps) rs d l =
-    append_assoc (part_text p rs) _ _ ∙ ap (λ t. part_text p rs ++ t) (told_next n ps (drop (length p.steps.now) rs) d (omega arith))
-
-pub left_more : (n : ℕ) (ps : List Part) (rs rest : List Reply) (d : Part) → n < length ps → rest ≡ left_after n ps rs → drop (length (get_or ps n d).steps.now) rest ≡ left_after (n + 1) ps rs
-left_more n ps rs rest d l is = ap (drop (length (get_or ps n d).steps.now)) is ∙ rw add-one (left_next n ps rs d l)
-
-pub told_more : (n : ℕ) (ps : List Part) (rs rest : List Reply) (d : Part) → n < length ps → rest ≡ left_after n ps rs → told_upto n ps rs ++ part_text (get_or ps n d) rest ≡ told_upto (n + 1) ps rs
-told_more n ps rs rest d l is = ap (λ r. told_upto n ps rs ++ part_text (get_or ps n d) r) is ∙ rw add-one (told_next n ps rs d l)
-
-pub told_all : (n : ℕ) (ps : List Part) (rs : List Reply) → length ps ≤ n → told_upto n ps rs ≡ demo_text ps rs
-unfolding told_upto demo_text
-told_all zero [] rs l = refl
-told_all zero (p ∷ ps) rs l = absurd (omega arith)
-told_all (suc n) [] rs l = refl
-told_all (suc n) (p ∷ ps) rs l = ap (λ t. part_text p rs ++ t) (told_all n ps (drop (length p.steps.now) rs) (omega arith))
+pub text_none : (rs : List Reply) → [] ≡ demo_text [] rs
+unfolding demo_text
+text_none rs = refl

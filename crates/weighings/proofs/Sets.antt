@@ -1,5 +1,5 @@
 -- A set of places put together from the lowest place on. Assumes nothing.
-use Rattle.std.proofs.Common.{◌≡◌, ℕ, ◌+◌, ◌*◌, ◌/◌, ◌%◌, ◌^◌, ◌<◌, true, false, ltb, eqb, bit_or, sym, ap, ◌∙◌, arith, mod-lt, mod-eq_of_lt, pow_pos}
+use Rattle.std.proofs.Common.{◌≡◌, ℕ, ◌+◌, ◌*◌, ◌/◌, ◌%◌, ◌^◌, ◌<◌, true, false, ltb, bit_or, sym, ap, ◌∙◌, arith, mod-lt, pow_pos}
 use Rattle.std.proofs.lemmas.Bool.{lt-ltb, cond-true}
 use Rattle.std.proofs.lemmas.Bool.Decides.{nat_tests}
 use Rattle.std.proofs.lemmas.Nat.{mod-pow-add}
@@ -30,7 +30,3 @@ place_more s p l h =
 pub place_missing : (s : PlaceSet) (p : ℕ) → p < 64 → member s.word p ≡ false → below s p ≡ below s (p + 1)
 place_missing s p l h =
     ap (λ w. record { word = w }) (omega arith ∙ sym (bit s.word p 0 (no_bit s.word p l h)) ∙ ap (λ n. s.word % 2 ^ n) (omega arith))
-
--- there is no place of 64 or more
-pub places_all : (s : PlaceSet) → s.word < 2 ^ 64 → below s 64 ≡ s
-places_all s l = ap (λ w. record { word = w }) (mod-eq_of_lt l)

@@ -7,7 +7,7 @@ ghost use Rattle.weighings.specs.Shown.{Tells, Shows, FailsByMemory};
 
 use crate::calls::{let_go, listed};
 use crate::steps::Part;
-use crate::text::AllTold;
+use crate::text::DemoText;
 use clocks::Clocks;
 use monitor::{Reply, answer_all};
 use std::alloc::{AllocError, Global};
@@ -62,11 +62,11 @@ fn text_of(heap: Global, parts: &[Part]) -> Result<String, AllocError>
     ensures { IfOk result (λ t. Tells parts.now (string_bytes t)) }
 {
     let replies = answered(heap, parts)?;
-    let told = AllTold {
+    let text = DemoText {
         parts,
         replies: replies.as_slice(),
     };
-    format!(in heap; "{told}")
+    format!(in heap; "{text}")
 }
 
 // Prints that text, once it is whole and not before.

@@ -7,14 +7,14 @@ use crate::words::Answer;
 use monitor::Reply;
 use std::fmt;
 
-// A part with the replies from its first step's on.
+// A part, and the replies from that to its first step on.
 #[derive(Drop)]
-struct PartTold<'a> {
+struct PartText<'a> {
     part: &'a Part,
     replies: &'a [Reply],
 }
 
-impl fmt::Display for PartTold<'_> {
+impl fmt::Display for PartText<'_> {
     ghost output = { λ t. Some (part_text t.part.now t.replies.now) };
 
     fn fmt<W: fmt::Write>(&self, f: &mut fmt::Formatter<W>) -> fmt::Result {
@@ -33,20 +33,20 @@ fn after(replies: &[Reply], n: usize) -> &[Reply]
     replies.get(n..).unwrap_or(&[])
 }
 
-// All parts with all replies.
+// All parts, and the replies to all their steps.
 #[derive(Drop)]
-pub(crate) struct AllTold<'a> {
+pub(crate) struct DemoText<'a> {
     pub(crate) parts: &'a [Part],
     pub(crate) replies: &'a [Reply],
 }
 
-impl fmt::Display for AllTold<'_> {
+impl fmt::Display for DemoText<'_> {
     ghost output = { λ t. Some (demo_text t.parts.now t.replies.now) };
 
     fn fmt<W: fmt::Write>(&self, f: &mut fmt::Formatter<W>) -> fmt::Result {
         let mut replies = self.replies;
         for part in self.parts {
-            write!(f, "{}", PartTold { part, replies })?;
+            write!(f, "{}", PartText { part, replies })?;
             replies = after(replies, part.steps.len());
         }
         Ok(())

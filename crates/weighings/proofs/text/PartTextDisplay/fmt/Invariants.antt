@@ -2,7 +2,7 @@ use Rattle.std.proofs.Common.{flat_map, length, take}
 use Rattle.std.specs.Fmt.{HasWritten, IsPlainFormatter}
 use Rattle.std.specs.List.{zip}
 use Rattle.weighings.specs.Texts.{line_text}
-use Rattle.weighings.proofs.text.PartToldDisplay.fmt.Given as goal
+use Rattle.weighings.proofs.text.PartTextDisplay.fmt.Given as goal
 
 -- the lines of the steps so far are written behind the title
 abbrev pub invariant-loop-step : goal.invariant-loop-step

@@ -5,7 +5,7 @@ use Rattle.std.proofs.lemmas.Slice.Zip.{zip_turn, zip_end}
 use Rattle.std.specs.List.{zip}
 use Rattle.weighings.specs.Texts.{line_text, part_text}
 use Rattle.weighings.proofs.Parts.{lines_more, lines_all}
-use Rattle.weighings.proofs.text.PartToldDisplay.fmt.Goals as goal
+use Rattle.weighings.proofs.text.PartTextDisplay.fmt.Goals as goal
 
 pub loop-step-preserved : goal.loop-step-preserved
 loop-step-preserved g c plain =
