@@ -5,7 +5,7 @@ use Rattle.std.proofs.lemmas.Bool.{cond_both, cond-false, eqb-false, ne_eqb, fal
 use Rattle.std.proofs.lemmas.List.{append_assoc, append-nil, same_from_push}
 use Rattle.std.specs.Fmt.{digit_glyph, digits_onto, digits}
 use Rattle.events.specs.declared.Event.{Event}
-use Rattle.monitor.specs.Promise.{Sound}
+use Rattle.monitor.specs.Sound.{Sound}
 use Rattle.trace.specs.declared.fault.Refusal.{Refusal}
 use Rattle.trace.specs.Layout.{opening}
 use Rattle.trace.specs.Reading.{origin, entered, inside, outside}

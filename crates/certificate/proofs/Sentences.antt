@@ -9,7 +9,7 @@ use Rattle.order.specs.Faults.{Lawful}
 use Rattle.order.specs.Judgement.{Answer, accepted, refused, declined, judge, recorded}
 use Rattle.order.specs.Verdicts.{Right}
 use Rattle.order.proofs.Judgement.{right_at, recorded_sound}
-use Rattle.monitor.proofs.Sessions.{sound_from}
+use Rattle.monitor.proofs.Soundness.{sound_from}
 use Rattle.roster.specs.Numbers.{fault_number}
 use Rattle.trace.specs.declared.fault.Refusal.{Refusal}
 use Rattle.trace.specs.declared.fault.Site.{Site}

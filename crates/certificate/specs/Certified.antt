@@ -12,7 +12,7 @@ use Rattle.std.specs.Prelude.{◌≡◌, ℕ, ◌<◌, ◌⊎◌, List, [], ◌+
 use Rattle.events.specs.declared.Event.{Event}
 use Rattle.trace.specs.Reading.{outside}
 use Rattle.trace.specs.Whole.{Contains}
-use Rattle.monitor.specs.Promise.{Sound}
+use Rattle.monitor.specs.Sound.{Sound}
 use Rattle.certificate.specs.declared.fault.Fault.{Fault}
 use Rattle.certificate.specs.Running.{Outcome, Runs}
 use Rattle.certificate.specs.Sentence.{ListsRaces, EndsRightly, Sentence}

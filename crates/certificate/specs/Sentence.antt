@@ -27,7 +27,7 @@ use Rattle.trace.specs.Reading.{inside, next}
 use Rattle.trace.specs.Refusals.{FirstRefusal, EventSite, EventRefusal}
 use Rattle.trace.specs.Whole.{Reads}
 use Rattle.monitor.specs.declared.monitor.Monitor.{Monitor}
-use Rattle.monitor.specs.Promise.{Sound}
+use Rattle.monitor.specs.Sound.{Sound}
 use Rattle.monitor.specs.Stands.{Stands}
 use Rattle.certificate.specs.declared.fault.Cause.{Cause}
 use Rattle.certificate.specs.declared.fault.Cause.TheVariants.{Trace, Monitor as ByMonitor, Run as ByRun}

@@ -3,6 +3,7 @@
 --   NextPlace w n r     r is the lowest place of the set from n on, if there is one
 --   with_place s p      the set s with place p in it
 --   those_below n f     the numbers below n that pass the test f, lowest first
+--   places_of s         the places of the set s, lowest first
 --   places_left i       the places that an iterator over a set has still to give
 use Rattle.std.specs.Prelude.{◌≡◌, ℕ, zero, suc, ◌/◌, ◌%◌, ◌^◌, ◌<◌, ◌≤◌, Bool, true, false, cond, ◌&&◌, List, [], ◌∷◌, ◌++◌, Some, None, Option, ◌==◌, nat_lt, bit_or}
 use Rattle.events.specs.declared.places.PlaceSet.{PlaceSet}
@@ -28,5 +29,8 @@ unfoldable pub those_below : ℕ → (ℕ → Bool) → List ℕ
 those_below zero f = []
 those_below (suc n) f = those_below n f ++ cond (f n) (n ∷ []) []
 
+abbrev pub places_of : PlaceSet → List ℕ
+places_of s = those_below 64 (member s.word)
+
 abbrev pub places_left : Places → List ℕ
-places_left i = those_below 64 (member i.set.word)
+places_left i = places_of i.set

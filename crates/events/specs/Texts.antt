@@ -7,7 +7,7 @@ use Rattle.events.specs.declared.Event.{Event}
 use Rattle.events.specs.declared.Action.{Action}
 use Rattle.events.specs.declared.Action.TheVariants.{Read, Write, Acquire, Release, ReadFlag, WriteFlag, Fork, Join, Allocate, Commit}
 use Rattle.events.specs.declared.places.PlaceSet.{PlaceSet}
-use Rattle.events.specs.Places.{member, those_below}
+use Rattle.events.specs.Places.{places_of}
 
 abbrev pub after_space : ℕ → List ℕ
 after_space p = codes " " ++ decimal p
@@ -17,7 +17,7 @@ places_text [] = codes "none"
 places_text (p ∷ ps) = decimal p ++ flat_map after_space ps
 
 abbrev pub set_text : PlaceSet → List ℕ
-set_text s = places_text (those_below 64 (member s.word))
+set_text s = places_text (places_of s)
 
 abbrev pub action_text : Action → List ℕ
 action_text (Read p) = codes "reads place " ++ decimal p

@@ -1,7 +1,7 @@
 // Sets of places, as a transaction has two of them.
-ghost use Rattle.std.specs.Prelude.{◌≡◌, bit_or};
+ghost use Rattle.std.specs.Prelude.{◌≡◌, ◌↔◌, [], length, IsTrue, bit_or, count_ones};
 ghost use Rattle.std.specs.Iterator.{YieldsFirst, item_count};
-ghost use Rattle.events.specs.Places.{member, NextPlace, with_place, places_left};
+ghost use Rattle.events.specs.Places.{member, NextPlace, with_place, places_of, places_left};
 
 // Bit p stands for place p, and there are 64 places.
 #[derive(Clone, Copy, PartialEq, Eq, Debug)]
@@ -25,6 +25,21 @@ impl PlaceSet {
         ensures { result ≡ member self.word place }
     {
         place < 64 && (self.word >> place) % 2 == 1
+    }
+
+    // How many places are in the set: the ones of its word.
+    pub fn len(self) -> u32
+        ensures ones { result ≡ count_ones self.word }
+        ensures places { result ≡ length (places_of self) }
+    {
+        self.word.count_ones()
+    }
+
+    // Whether there is none.
+    pub fn is_empty(self) -> bool
+        ensures { IsTrue result ↔ (places_of self ≡ []) }
+    {
+        self.word == 0
     }
 
     // Puts the place into the set; one of 64 or more changes nothing.

@@ -1,2 +1,4 @@
+pub mod Soundness
 pub mod Standing
 pub mod Sessions
+pub mod Telling

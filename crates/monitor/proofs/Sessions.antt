@@ -20,20 +20,10 @@ use Rattle.monitor.specs.declared.session.Reply.{Reply}
 use Rattle.monitor.specs.declared.session.Reply.TheVariants.{Judged, Counted, Shown}
 use Rattle.monitor.specs.declared.verdict.Verdict.{Verdict}
 use Rattle.monitor.specs.Answers.{told}
-use Rattle.monitor.specs.Offers.{Judges}
 use Rattle.monitor.specs.Stands.{Stands}
-use Rattle.monitor.specs.Promise.{RightVerdict, RightReply, after, record_after, Sound, Promise, told_replies, AnsweredAs}
-
--- an offered event's verdict is right, and the monitor stands for what is recorded
-pub offered_right : {K : Type 0} {its : Ghosts K} {m m' : Monitor K its} (e : Event) (v : Verdict) → Judges m e v m' → (rec : List Event) → Stands rec m → RightVerdict rec e v × Stands (recorded rec e (told v)) m'
-offered_right e v judges rec stands =
-    let answer = judges rec stands in
-    (record { judged = answer.0; right = right_at rec e stands.lawful stands.free (told v) (sym answer.0) }, answer.1)
-
--- a lawful and race-free record is sound
-pub sound_from : (rec : List Event) → Lawful rec → RaceFree rec → Sound rec
-sound_from rec lawful free =
-    record { ordered = free; holders = λ l t h. (holder_runs rec lawful l t h).1; reads = same_reads rec free; own = own_order rec }
+use Rattle.monitor.specs.Promise.{RightReply, after, record_after, Promise, told_replies, AnsweredAs}
+use Rattle.monitor.specs.Sound.{Sound}
+use Rattle.monitor.proofs.Soundness.{sound_from}
 
 record_push : (rec : List Event) (cs : List Call) (rs : List Reply) (c : Call) (r : Reply) → Promise rec cs rs → record_after rec (cs ++ (c ∷ [])) (rs ++ (r ∷ [])) ≡ after (record_after rec cs rs) c r
 unfolding Promise record_after

@@ -27,9 +27,10 @@ use Rattle.roster.proofs.Following.{rule_tells, follows_none, follows_note}
 use Rattle.slots.specs.declared.table.Told.{Told}
 use Rattle.slots.specs.Bounds.{InBounds}
 use Rattle.slots.specs.Told.{told_as}
-use Rattle.slots.specs.Made.{made, set_at}
+use Rattle.slots.specs.Made.{made, set_at, held_at}
 use Rattle.slots.specs.Serials.{Numbered, serial_at}
 use Rattle.slots.proofs.Effects.{made_sets, made_passes}
+use Rattle.slots.proofs.Found.{race_in_range}
 use Rattle.slots.proofs.Ranges.{in_bounds}
 use Rattle.monitor.specs.declared.monitor.Monitor.{Monitor}
 use Rattle.monitor.specs.declared.verdict.Access.{Access}
@@ -63,13 +64,6 @@ module _ {K : Type 0} {its : Ghosts K} {rec : List Event} {m : Monitor K its} (s
       judge_by_cells rec e stands.free (serial_at m.slots.serials) (set_at (its.meaning m.slots.keeper)) stands.cells
       ∙ ap (λ o. ruled o (cell_verdict (length rec) (cell_race e (serial_at m.slots.serials) (set_at (its.meaning m.slots.keeper))))) none
 
-  -- no race is found by the cells, or one is
-  pub judged_free : fault rec e ≡ None → cell_race e (serial_at m.slots.serials) (set_at (its.meaning m.slots.keeper)) ≡ None → judge rec e ≡ accepted (length rec + 1)
-  judged_free none free = by_cells none ∙ ap (cell_verdict (length rec)) free
-
-  pub judged_racing : (f : Finding) → fault rec e ≡ None → cell_race e (serial_at m.slots.serials) (set_at (its.meaning m.slots.keeper)) ≡ Some f → judge rec e ≡ declined f.place f.witness
-  judged_racing f none found = by_cells none ∙ ap (cell_verdict (length rec)) found
-
   -- the refusal that the roster tells is the judgement's
   pub judged_refused : (f : RuleFault) → numbered (Err f) ≡ roster_refused m.roster m.accepted e → judge rec e ≡ refused (fault_number f)
   judged_refused f h = judge_refused rec e (fault_number f) (sym (rule_tells rec m.roster m.accepted e (Err f) stands.roster stands.counts h))
@@ -81,9 +75,10 @@ module _ {K : Type 0} {its : Ghosts K} {rec : List Event} {m : Monitor K its} (s
   bounded : fault rec e ≡ None → InBounds e
   bounded none = in_bounds rec e ((no_fault_iff rec e).0 none)
 
-  pub judged_by_race : numbered (Ok tt) ≡ roster_refused m.roster m.accepted e → (o : Option Finding) → (InBounds e → o ≡ cell_race e (serial_at m.slots.serials) (set_at (its.meaning m.slots.keeper))) → judge rec e ≡ cell_verdict (length rec) o
-  judged_by_race h None race = let none = no_fault h in judged_free none (sym (race (bounded none)))
-  judged_by_race h (Some f) race = let none = no_fault h in judged_racing f none (sym (race (bounded none)))
+  pub judged_by_race : numbered (Ok tt) ≡ roster_refused m.roster m.accepted e → (o : Option Finding) → o ≡ cell_race e (serial_at m.slots.serials) (held_at (its.meaning m.slots.keeper)) → judge rec e ≡ cell_verdict (length rec) o
+  judged_by_race h o race =
+      let none = no_fault h in
+      by_cells none ∙ ap (cell_verdict (length rec)) (sym (race ∙ race_in_range e (bounded none) (serial_at m.slots.serials) (its.meaning m.slots.keeper)))
 
   -- what accepting the event makes of the monitor stands for the longer record
   pub stands_more : (m' : Monitor K its) (serial : ℕ) → judge rec e ≡ accepted serial → m'.accepted ≡ serial → Noted m.roster e m'.roster → its.live m'.slots.keeper → its.meaning m'.slots.keeper ≡ made (calls e) (its.meaning m.slots.keeper) → Numbered m.slots.serials m'.slots.serials (λ p k n. changed e p k serial 0 n) → Stands (e ∷ rec) m'
@@ -112,13 +107,3 @@ module _ {K : Type 0} {its : Ghosts K} {rec : List Event} {m : Monitor K its} (s
         lawful = accepted_lawful rec e stands.lawful stands.free serial took;
         free = accepted_free rec e stands.lawful stands.free serial took;
       }
-
--- what the slots tell answers the question
-pub asked_told : {K : Type 0} {its : Ghosts K} {rec : List Event} {m : Monitor K its} → Stands rec m → (p t slot : ℕ) (a : Access) (o : Option Told) → slot ≡ slot_of a → no_reader a ≡ false → p < 64 → slot < 9 → t < 8 → told_as o ≡ cond (ltb p 64 && (ltb slot 9 && ltb t 8)) (cell_told (serial_at m.slots.serials p slot) (set_at (its.meaning m.slots.keeper) p slot) t) None → ◌≡◌ {A = Result (Option questions.Told) ℕ} (Ok (told_as o)) (asked rec p a t)
-asked_told {K} {its} {rec} {m} stands p t slot a o is reader place in-slot thread told =
-    let range = and_from (ltb p 64) (ltb slot 9 && ltb t 8) (lt-ltb p 64 place) (and_from (ltb slot 9) (ltb t 8) (lt-ltb slot 9 in-slot) (lt-ltb t 8 thread)) in
-    let cell = stands.cells p slot place in-slot in
-    let answer = told ∙ cond-true (ltb p 64 && (ltb slot 9 && ltb t 8)) _ _ range ∙ sym (told_by_cell rec p slot _ _ cell t thread) ∙ ap (λ k. questions.slot_told rec p k t) is in
-    let who = or_from (no_reader a) (leb 8 t) reader (lt-leb 8 t thread) in
-    let where' = lt-leb 64 p place in
-    ap Ok answer ∙ sym (cond-false (no_reader a || leb 8 t) _ _ who ∙ cond-false (leb 64 p) _ _ where')

@@ -2,24 +2,20 @@
 --   after rec c r        the record after a call and its reply, taken from these alone
 --   record_after rec cs rs   the record after a list of calls and their replies
 --   RightReply rec c r   the reply to the call c, made after the record, is right
---   Sound rec            what the certificate says of a record
 --   AnsweredAs cs rs x   the calls that a worked example lists are answered as it lists
 --   Promise rec cs rs    each reply is right, and after each call the record is sound
-use Rattle.std.specs.Prelude.{◌≡◌, ℕ, true, List, [], ◌∷◌, map, length, Some}
+use Rattle.std.specs.Prelude.{◌≡◌, List, [], ◌∷◌, map, length, IfOk}
 use Rattle.events.specs.declared.Event.{Event}
-use Rattle.order.specs.Conflicts.{RaceFree}
 use Rattle.order.specs.Examples.{Example}
-use Rattle.order.specs.Judgement.{Answer, judge, recorded}
-use Rattle.order.specs.Rearrangements.{Rearrangement, positions, SameReads}
-use Rattle.order.specs.Records.{running, lock_holder}
-use Rattle.order.specs.Verdicts.{Right}
+use Rattle.order.specs.Judgement.{Answer, recorded}
 use Rattle.monitor.specs.declared.session.Call.{Call}
 use Rattle.monitor.specs.declared.session.Call.TheVariants.{Offer, Commit, Count, Ask}
 use Rattle.monitor.specs.declared.session.Reply.{Reply}
 use Rattle.monitor.specs.declared.session.Reply.TheVariants.{Judged, Counted, Shown}
-use Rattle.monitor.specs.declared.verdict.Verdict.{Verdict}
 use Rattle.monitor.specs.Answers.{told, asked, told_of}
+use Rattle.monitor.specs.Shown.{RightlyTold}
 use Rattle.monitor.specs.Slips.{commit_of}
+use Rattle.monitor.specs.Sound.{RightVerdict, Sound}
 
 abbrev pub after_event : List Event → Event → Reply → List Event
 after_event rec e (Judged v) = recorded rec e (told v)
@@ -37,35 +33,19 @@ record_after rec [] rs = rec
 record_after rec (c ∷ cs) [] = rec
 record_after rec (c ∷ cs) (r ∷ rs) = record_after (after rec c r) cs rs
 
--- the verdict on an event is the judgement's, which is right: declined just where it races, with the witness that the
--- rule names; else accepted with the next serial; but refused by the first number that applies, if one does
-pub record RightVerdict (rec : List Event) (e : Event) (v : Verdict) : Type 0 where
-  pub judged : told v ≡ judge rec e
-  pub right : Right rec e (told v)
-
 abbrev pub RightReply : List Event → Call → Reply → Type 0
-RightReply rec (Offer e) (Judged v) = RightVerdict rec e v
+RightReply rec (Offer e) (Judged v) = RightVerdict rec e (told v)
 RightReply rec (Offer e) (Counted n) = ⊥
 RightReply rec (Offer e) (Shown x) = ⊥
-RightReply rec (Commit s) (Judged v) = RightVerdict rec (commit_of s) v
+RightReply rec (Commit s) (Judged v) = RightVerdict rec (commit_of s) (told v)
 RightReply rec (Commit s) (Counted n) = ⊥
 RightReply rec (Commit s) (Shown x) = ⊥
 RightReply rec Count (Counted n) = n ≡ length rec
 RightReply rec Count (Judged v) = ⊥
 RightReply rec Count (Shown x) = ⊥
-RightReply rec (Ask q) (Shown x) = told_of x ≡ asked rec q.place q.access q.thread
+RightReply rec (Ask q) (Shown x) = (told_of x ≡ asked rec q.place q.access q.thread) × IfOk x (λ o. RightlyTold rec q o)
 RightReply rec (Ask q) (Judged v) = ⊥
 RightReply rec (Ask q) (Counted n) = ⊥
-
-pub record Sound (rec : List Event) : Type 0 where
-  -- of any two conflicting accesses one is ordered before the other
-  pub ordered : RaceFree rec
-  -- a lock's holder is a running thread
-  pub holders : (l t : ℕ) → lock_holder rec l ≡ Some t → running rec t ≡ true
-  -- in every rearrangement that keeps thread order and hand-overs each read has the same latest write
-  pub reads : SameReads rec
-  -- and the record's own order is one of these
-  pub own : Rearrangement (positions (length rec)) rec
 
 unfoldable pub Promise : List Event → List Call → List Reply → Type 0
 Promise rec [] [] = Unit {0}

@@ -1,24 +1,26 @@
-// Starting a monitor, offering it events, and the questions.
-ghost use Rattle.std.specs.Prelude.{◌≡◌, List, [], ◌∷◌, length};
+// Starting a monitor, offering it events, and ending it.
+ghost use Rattle.std.specs.Prelude.{◌≡◌, List, [], ◌∷◌};
 ghost use Rattle.events.specs.declared.Event.{Event as AnEvent};
+ghost use Rattle.keepers.specs.Meaning.{cleared};
 ghost use Rattle.order.specs.Judgement.{judge, accepted as accepted_as};
 ghost use Rattle.order.specs.Work.{calls};
 ghost use Rattle.slots.specs.Made.{made};
-ghost use Rattle.monitor.specs.Answers.{told, asked, told_of, UnlessAccepted};
-ghost use Rattle.monitor.specs.Offers.{Judges, Works};
+ghost use Rattle.monitor.specs.Answers.{told, decided};
+ghost use Rattle.monitor.specs.Offers.{Judges, Works, Keeps};
 ghost use Rattle.monitor.specs.Stands.{Stands};
 
 use crate::monitor::Monitor;
-use crate::verdict::{Question, Verdict};
+use crate::verdict::{Decision, Verdict};
 use events::Event;
 use keepers::Keeper;
 use roster::{Roster, RuleFault};
-use slots::{Slots, Told};
+use slots::Slots;
 
 impl<K: Keeper> Monitor<K> {
     // An empty record over the keeper, whatever that held before.
     pub fn start(keeper: K) -> Monitor<K>
-        ensures { Stands [] result }
+        ensures stands { Stands [] result }
+        ensures keeper { K.meaning result.slots.keeper ≡ cleared }
     {
         Monitor {
             accepted: 0,
@@ -28,20 +30,18 @@ impl<K: Keeper> Monitor<K> {
     }
 
     // How the event would be answered.
-    fn check(&self, event: Event) -> Verdict
-        ensures { (rec : List AnEvent) → Stands rec self.now → told result ≡ judge rec event }
+    fn check(&self, event: Event) -> Result<Decision, RuleFault>
+        ensures { (rec : List AnEvent) → Stands rec self.now → decided result ≡ judge rec event }
     {
-        if let Err(fault) = self.roster.rule(self.accepted, event) {
-            return Verdict::Refused { fault };
-        }
+        self.roster.rule(self.accepted, event)?;
         match self.slots.race(event) {
-            Some(race) => Verdict::Declined {
+            Some(race) => Ok(Decision::Declined {
                 place: race.place,
                 witness: race.witness,
-            },
-            None => Verdict::Accepted {
+            }),
+            None => Ok(Decision::Accepted {
                 serial: self.accepted.saturating_add(1),
-            },
+            }),
         }
     }
 
@@ -55,17 +55,26 @@ impl<K: Keeper> Monitor<K> {
         self.roster.note(event);
     }
 
-    // Offers an event. Only an accepted one changes anything.
-    pub fn offer(&mut self, event: Event) -> Verdict
-        ensures answer { Judges self.old event result self.new }
-        ensures keeper { Works self.old event result self.new }
-        ensures unchanged { UnlessAccepted result (self.new ≡ self.old) }
+    // Offers an event: a refusal is the error. Only an accepted event changes anything.
+    pub fn try_offer(&mut self, event: Event) -> Result<Decision, RuleFault>
+        ensures answer { Judges self.old event (decided result) self.new }
+        ensures keeper { Works self.old event (decided result) self.new }
+        ensures unchanged { Keeps self.old (decided result) self.new }
     {
-        let verdict = self.check(event);
-        if let Verdict::Accepted { serial } = verdict {
+        let decision = self.check(event)?;
+        if let Decision::Accepted { serial } = decision {
             self.accept(serial, event);
         }
-        verdict
+        Ok(decision)
+    }
+
+    // Offers an event, and tells what became of it as one value.
+    pub fn offer(&mut self, event: Event) -> Verdict
+        ensures answer { Judges self.old event (told result) self.new }
+        ensures keeper { Works self.old event (told result) self.new }
+        ensures unchanged { Keeps self.old (told result) self.new }
+    {
+        Verdict::from(self.try_offer(event))
     }
 
     // Ends the monitor and hands the keeper back.
@@ -78,31 +87,5 @@ impl<K: Keeper> Monitor<K> {
             slots,
         } = self;
         slots.into_keeper()
-    }
-
-    // How many events are accepted.
-    pub fn accepted(&self) -> u32
-        ensures { (rec : List AnEvent) → Stands rec self.now → result ≡ length rec }
-    {
-        self.accepted
-    }
-
-    // Whether the access that is asked about is there; and then its serial, and whether it has reached the thread.
-    pub fn ask(&self, question: Question) -> Result<Option<Told>, RuleFault>
-        ensures { (rec : List AnEvent) → Stands rec self.now → told_of result ≡ asked rec question.place question.access question.thread }
-    {
-        let Question {
-            place,
-            access,
-            thread,
-        } = question;
-        let slot = access.slot()?;
-        if thread >= 8 {
-            return Err(RuleFault::NoSuchThread);
-        }
-        if place >= 64 {
-            return Err(RuleFault::NoSuchThing);
-        }
-        Ok(self.slots.tell(place, slot, thread))
     }
 }

@@ -1,8 +1,8 @@
 // A slip gathers a transaction. It has no `Drop`: an open one must be committed or abandoned.
 ghost use Rattle.std.specs.Prelude.{◌≡◌};
 ghost use Rattle.events.specs.Places.{with_place};
-ghost use Rattle.monitor.specs.Answers.{UnlessAccepted};
-ghost use Rattle.monitor.specs.Offers.{Judges, Works};
+ghost use Rattle.monitor.specs.Answers.{told};
+ghost use Rattle.monitor.specs.Offers.{Judges, Works, Keeps};
 ghost use Rattle.monitor.specs.Slips.{opened, with_read, with_write, add_answer, commit_of};
 
 use crate::monitor::Monitor;
@@ -68,9 +68,9 @@ impl Slip {
 
     // Offers the transaction's commit; the slip is spent, whatever the answer.
     pub fn commit<K: Keeper>(self, monitor: &mut Monitor<K>) -> Verdict
-        ensures answer { Judges monitor.old (commit_of self) result monitor.new }
-        ensures keeper { Works monitor.old (commit_of self) result monitor.new }
-        ensures unchanged { UnlessAccepted result (monitor.new ≡ monitor.old) }
+        ensures answer { Judges monitor.old (commit_of self) (told result) monitor.new }
+        ensures keeper { Works monitor.old (commit_of self) (told result) monitor.new }
+        ensures unchanged { Keeps monitor.old (told result) monitor.new }
     {
         let Slip {
             thread,

@@ -1,6 +1,20 @@
 // Theorems about the judgement, each on the contract of a function that does nothing.
+ghost use Rattle.std.specs.Prelude.{List};
+ghost use Rattle.events.specs.declared.Event.{Event as AnEvent};
 ghost use Rattle.order.specs.Examples.{AsWorked};
+ghost use Rattle.order.specs.Judgement.{judge};
+ghost use Rattle.order.specs.Verdicts.{Right};
+ghost use Rattle.monitor.specs.Sound.{Sound};
+ghost use Rattle.monitor.specs.Stands.{Stands};
 ghost use Rattle.monitor.specs.Theorems.{OrderDecided, ReachedOrdered, SlotStands, OneRight, CommitPasses};
+
+use crate::monitor::Monitor;
+use keepers::Keeper;
+
+// A record for which a monitor stands is sound, and the judgement on it is right for every event.
+pub fn standing_is_sound<K: Keeper>(_monitor: &Monitor<K>)
+    ensures { (rec : List AnEvent) → Stands rec _monitor.now → Sound rec × ((e : AnEvent) → Right rec e (judge rec e)) }
+{}
 
 // The test of order that computes decides whether a chain leads from one event to another.
 pub fn order_is_decided()

@@ -1,16 +1,34 @@
 // What is asked of the monitor beside events, and what it answers.
 ghost use Rattle.std.specs.Prelude.{◌≡◌, ◌<◌, true, false, MatchResult};
-ghost use Rattle.monitor.specs.Answers.{number, slot_of, no_reader};
+ghost use Rattle.monitor.specs.Answers.{number, verdict_of, slot_of, no_reader};
 
 use roster::RuleFault;
 
-// The answer to an offered event. It is of three kinds: a refusal broke a rule and a decline would race, so neither
-// `Option` nor `Result` says it.
+// What becomes of an offered event that breaks no rule. A decline is no error: it is what a monitor is there to find.
+#[derive(Clone, Copy, PartialEq, Eq, Debug)]
+pub enum Decision {
+    Accepted { serial: u32 },
+    Declined { place: u8, witness: u32 },
+}
+
+// The answer to an offered event as one value, to be kept in a list or printed.
 #[derive(Clone, Copy, PartialEq, Eq, Debug)]
 pub enum Verdict {
     Accepted { serial: u32 },
     Refused { fault: RuleFault },
     Declined { place: u8, witness: u32 },
+}
+
+impl From<Result<Decision, RuleFault>> for Verdict {
+    ghost from_gives = { λ r v. v ≡ verdict_of r };
+
+    fn from(answer: Result<Decision, RuleFault>) -> Verdict {
+        match answer {
+            Ok(Decision::Accepted { serial }) => Verdict::Accepted { serial },
+            Ok(Decision::Declined { place, witness }) => Verdict::Declined { place, witness },
+            Err(fault) => Verdict::Refused { fault },
+        }
+    }
 }
 
 impl Verdict {

@@ -1,12 +1,8 @@
 // Ten short runs, each after thread 0 has forked thread 1, over every pile of keepers.
 use crate::common::FORK;
+use crate::piles::{Offered, over_all};
 use crate::words::Words;
-use clocks::Clocks;
 use events::{Action, Event, PlaceSet};
-use keepers::Keeper;
-use locksets::Locksets;
-use monitor::{Monitor, Verdict};
-use shortcut::ShortCut;
 use std::alloc::{AllocError, Global};
 
 // The set of place 5 alone.
@@ -88,39 +84,24 @@ const RUNS: [&[(u8, Action)]; 10] = [
     ],
 ];
 
-// The answers to a run, after the fork.
-fn answers<K: Keeper + Drop>(
-    heap: Global,
-    keeper: K,
-    run: &[(u8, Action)],
-) -> Result<Vec<Verdict>, AllocError> {
-    let mut monitor = Monitor::start(keeper);
-    let mut told = Vec::new(heap);
-    told.push(monitor.offer(FORK))?;
+// The events of a run, after the fork.
+fn events_of(heap: Global, run: &[(u8, Action)]) -> Result<Vec<Event>, AllocError> {
+    let mut events = Vec::new(heap);
+    events.push(FORK)?;
     for &(thread, action) in run {
-        told.push(monitor.offer(Event { thread, action }))?;
+        events.push(Event { thread, action })?;
     }
-    Ok(told)
+    Ok(events)
 }
 
-// One line where all answers of all piles are the same, otherwise the last answer of each.
+// One line where all answers and passes of all piles are the same, otherwise the last answer of each.
 fn compare(rt: &HostRuntime, number: u8, run: &[(u8, Action)]) -> anyhow::Result<()> {
     let heap = rt.alloc();
-    let piles = [
-        ("locksets", answers(heap, Locksets::new(), run)?),
-        ("clocks", answers(heap, Clocks::new(), run)?),
-        (
-            "the short cut over locksets",
-            answers(heap, ShortCut::new(Locksets::new()), run)?,
-        ),
-        (
-            "the short cut over clocks",
-            answers(heap, ShortCut::new(Clocks::new()), run)?,
-        ),
-    ];
+    let events = events_of(heap, run)?;
+    let piles = over_all(heap, &events)?;
     let [(_, first), ..] = &piles;
-    if piles.iter().all(|(_, told)| told == first) {
-        let last = Words(first.last());
+    let last = Words(first.last());
+    if piles.iter().all(|(_, told)| told == first) && first.iter().all(Offered::is_counted) {
         println!(rt; "example {number}: {last}, the same over all four piles")?;
         return Ok(());
     }

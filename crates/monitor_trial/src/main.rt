@@ -6,20 +6,30 @@ mod examples;
 mod faults;
 mod full;
 mod limits;
+mod piles;
 mod questions;
 mod words;
 
-use clocks::Clocks;
 use events::{Action, Event};
-use monitor::Monitor;
+use piles::over_all;
 use words::Words;
 
-// Offers events to a new monitor, each with a name, one to a line.
+// Offers events, each with a name, over every pile: one to a line, and the piles that answer or count otherwise.
 fn offer_all(rt: &HostRuntime, named: &[(&str, u8, Action)]) -> anyhow::Result<()> {
-    let mut monitor = Monitor::start(Clocks::new());
-    for &(name, thread, action) in named {
-        let told = monitor.offer(Event { thread, action });
+    let heap = rt.alloc();
+    let mut events = Vec::new(heap);
+    for &(_, thread, action) in named {
+        events.push(Event { thread, action })?;
+    }
+    let piles = over_all(heap, &events)?;
+    let [(_, first), ..] = &piles;
+    for (&(name, ..), &told) in named.iter().zip(first) {
         println!(rt; "{name}: {}", Words(told))?;
+    }
+    for (pile, told) in &piles {
+        if told != first {
+            println!(rt; "otherwise over {pile}")?;
+        }
     }
     Ok(())
 }

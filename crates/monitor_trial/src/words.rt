@@ -1,4 +1,5 @@
 // Answers in words.
+use crate::piles::Offered;
 use monitor::{Access, Question, Verdict};
 use roster::RuleFault;
 use slots::Told;
@@ -15,12 +16,29 @@ impl fmt::Display for Words<RuleFault> {
 }
 
 // The last answer of a run.
-impl fmt::Display for Words<Option<&Verdict>> {
+impl fmt::Display for Words<Option<&Offered>> {
     fn fmt<W: fmt::Write>(&self, f: &mut fmt::Formatter<W>) -> fmt::Result {
         match self.0 {
-            Some(verdict) => write!(f, "{}", Words(*verdict)),
+            Some(offered) => write!(f, "{}, passes up to {}", Words(offered.verdict), offered.after),
             None => write!(f, "nothing"),
         }
+    }
+}
+
+// The answer to an event, and the passes that it makes.
+impl fmt::Display for Words<Offered> {
+    fn fmt<W: fmt::Write>(&self, f: &mut fmt::Formatter<W>) -> fmt::Result {
+        let Offered {
+            verdict,
+            passes,
+            before,
+            after,
+        } = self.0;
+        write!(f, "{}, passes {passes}", Words(verdict))?;
+        if self.0.is_counted() {
+            return Ok(());
+        }
+        write!(f, ", but counted {before} before and {after} after")
     }
 }
 

@@ -15,7 +15,7 @@ use Rattle.order.specs.Work.{accesses}
 use Rattle.order.proofs.Passes.{has, has_those_below, those_below_has}
 use Rattle.order.proofs.Computing.{acts}
 use Rattle.slots.specs.Serials.{by_read, by_write, by_commit}
-use Rattle.slots.proofs.Places.{member_or}
+use Rattle.events.proofs.Counts.{member_or}
 use Rattle.keepers.specs.Meaning.{is_slot}
 
 pub read_at : (q u n p k x : ℕ) → u < 8 → p < 64 → k < 9 → cond (is_slot (9 * q + (u + 1)) && eqb (9 * p + k) (9 * q + (u + 1))) n x ≡ by_read q u n p k x

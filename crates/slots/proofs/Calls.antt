@@ -10,7 +10,7 @@ use Rattle.order.specs.Slots.{taken, given}
 use Rattle.order.specs.Work.{Call, forget_from, written, looked_at, committed, accesses, calls}
 use Rattle.slots.specs.Made.{called, made, passes_in, passes_out}
 use Rattle.slots.specs.HoldersLeft.{capped}
-use Rattle.slots.proofs.Places.{member_or}
+use Rattle.events.proofs.Counts.{member_or}
 
 pub made_append : (cs ds : List Call) (m : Meaning) → made (cs ++ ds) m ≡ made ds (made cs m)
 made_append [] ds m = refl

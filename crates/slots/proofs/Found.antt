@@ -1,9 +1,10 @@
 -- The search for a race, step by step. Assumes nothing.
 use Rattle.std.specs.Bool.{then_some}
 use Rattle.std.specs.List.{range_with_len}
-use Rattle.std.proofs.Common.{◌≡◌, ℕ, zero, suc, ◌+◌, ◌*◌, ◌<◌, Bool, true, false, cond, not, ◌&&◌, ◌||◌, eqb, List, [], ◌∷◌, ◌++◌, Some, None, Option, sym, refl, ap, ap₂, ◌∙◌, inl, inr, add-zero, zero-add, arith}
+use Rattle.std.proofs.Common.{◌≡◌, ℕ, zero, suc, ◌+◌, ◌*◌, ◌<◌, ◌≤◌, Bool, true, false, cond, not, ◌&&◌, ◌||◌, eqb, List, [], ◌∷◌, ◌++◌, Some, None, Option, sym, refl, ap, ap₂, ◌∙◌, inl, inr, add-zero, zero-add, arith}
 use Rattle.std.proofs.lemmas.Option.{none-some}
-use Rattle.std.proofs.lemmas.Bool.{cases_eq, cond-true, cond-false, or_left, or_right, or_from, ne_eqb, false≢true}
+use mathlib.Core.Path.{fun_ext}
+use Rattle.std.proofs.lemmas.Bool.{cases_eq, cases_lt, cond-true, cond-false, or_left, or_right, or_from, ne_eqb, false≢true}
 use Rattle.events.specs.Places.{member, those_below}
 use Rattle.events.specs.declared.Event.{Event}
 use Rattle.events.specs.declared.Action.{Action}
@@ -105,6 +106,17 @@ module _ (e : Event) (n : ℕ → ℕ) (s : ℕ → Set) where
   unfolding cell_witness
   witness_untouched p h = cond-false (touches e p) _ None h
 
+  -- where there are no accesses there is none
+  pub witness_empty : (p : ℕ) → ((k : ℕ) → n k ≡ 0) → cell_witness e p n s ≡ None
+  unfolding cell_witness cell_read pending first_from
+  witness_empty p zeros =
+      ap (λ m. cell_witness e p m s) (fun_ext {f = n} {g = λ _. 0} zeros) ∙ at_test (touches e p) (writes_place e p)
+    where
+      at_test : (a b : Bool) → ◌≡◌ {A = Option ℕ} (cond a (cond b None None) None) None
+      at_test true true = refl
+      at_test true false = refl
+      at_test false b = refl
+
   pub witness_none : (p : ℕ) → writes_place e p ≡ false → reads_place e p ≡ false → cell_witness e p n s ≡ None
   unfolding touches
   witness_none p h r = witness_untouched p (or_from (writes_place e p) (reads_place e p) h r)
@@ -127,16 +139,19 @@ module _ (e : Event) (n : ℕ → ℕ → ℕ) (s : ℕ → ℕ → Set) where
   unfolding race_of
   race_among test others = race_search ∙ first_among race_of 64 test (λ p out. untouched p (others p out))
 
-  -- an event that touches one place at most
-  pub race_only : (p : ℕ) → p < 64 → ((q : ℕ) → (q ≡ p → ⊥) → touches e q ≡ false) → cell_race e n s ≡ found p (cell_witness e p (n p) (s p))
+  -- an event that touches one place at most; past the last place there are no accesses
+  pub race_only : (p : ℕ) → (64 ≤ p → (k : ℕ) → n p k ≡ 0) → ((q : ℕ) → (q ≡ p → ⊥) → touches e q ≡ false) → cell_race e n s ≡ found p (cell_witness e p (n p) (s p))
   unfolding race_of
-  race_only p l others =
+  race_only p past others =
       race_search ∙ elim (first_from_cases race_of 64 0) [
         | inl f ↦ f.1 ∙ elim (cases_eq f.2.at p) [
           | inl same ↦ sym f.2.is ∙ ap race_of same
           | inr other ↦ absurd (some_not_none (race_of f.2.at) f.0 f.2.is (untouched f.2.at (others f.2.at other)))
         ]
-        | inr f ↦ f.0 ∙ sym (f.1 p (omega arith) (omega arith))
+        | inr f ↦ elim (cases_lt p 64) [
+          | inl within ↦ f.0 ∙ sym (f.1 p (omega arith) (omega arith))
+          | inr far ↦ f.0 ∙ sym (ap (found p) (witness_empty e (n p) (s p) p (past far)))
+        ]
       ]
 
   pub race_nowhere : ((q : ℕ) → touches e q ≡ false) → cell_race e n s ≡ None

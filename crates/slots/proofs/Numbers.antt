@@ -1,8 +1,10 @@
 -- The serials after a write, read in range. Assumes nothing.
-use Rattle.std.proofs.Common.{◌≡◌, ℕ, ◌<◌, cond, ◌&&◌, eqb, List, length, get_or, set, replicate, sym, ap, ◌∙◌, inl, inr, arith}
+use Rattle.std.proofs.Common.{◌≡◌, ℕ, ◌<◌, ◌≤◌, cond, ◌&&◌, eqb, List, length, get_or, set, replicate, sym, ap, ◌∙◌, inl, inr, arith}
 use Rattle.std.proofs.lemmas.List.{get_or-set_same, get_or-set_other, get_or-replicate}
 use Rattle.std.proofs.lemmas.Bool.{cases_eq, cases_lt, lt-ltb, le-ltb, eq-eqb, ne_eqb, cond-true, cond-false, and_from, and_right}
 use Rattle.keepers.specs.Meaning.{is_slot}
+use Rattle.slots.specs.declared.serials.Serials.{Serials}
+use Rattle.slots.specs.Serials.{number_at}
 
 -- a row of numbers, read in range
 abbrev pub number_in : List ℕ → ℕ → ℕ
@@ -25,3 +27,8 @@ in_none s = elim (cases_lt s 576) [
   | inl l ↦ cond-true (is_slot s) _ 0 (lt-ltb s 576 l) ∙ get_or-replicate 576 s 0 0 l
   | inr l ↦ cond-false (is_slot s) _ 0 (le-ltb s 576 l)
 ]
+
+-- past the last slot there are none
+pub number_past : (t : Serials) (s : ℕ) → 576 ≤ s → number_at t s ≡ 0
+unfolding number_at
+number_past t s l = cond-false (is_slot s) _ 0 (le-ltb s 576 l)

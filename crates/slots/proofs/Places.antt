@@ -5,22 +5,14 @@ use Rattle.std.proofs.lemmas.Bool.Decides.{nat_tests}
 use Rattle.std.proofs.ByRecursion.{All-append}
 use Rattle.std.proofs.lemmas.Bool.{cases_lt, lt-ltb, le-ltb, and_from, and_left, and_right}
 use mathlib.Core.Path.{fun_ext}
-use lib.Bits.{bit_or, or_shr}
+use lib.Bits.{bit_or}
 use Rattle.events.specs.Places.{member, those_below}
+use Rattle.events.proofs.Counts.{member_or}
 use Rattle.keepers.specs.Meaning.{Meaning, is_slot, is_holder}
 use Rattle.order.specs.Slots.{place_holders}
 use Rattle.order.specs.Cells.{some_in}
-use Rattle.order.proofs.PassCounts.{or_bit}
 use Rattle.slots.specs.Made.{held}
 use Rattle.slots.specs.HoldersLeft.{capped}
-
-either_bit : (p a b : ℕ) → a < 2 → b < 2 → (ltb p 64 && eqb (max a b) 1) ≡ (ltb p 64 && eqb a 1 || ltb p 64 && eqb b 1)
-either_bit p a b l m = grind (arith, nat_tests)
-
--- a place is in the union just if it is in either set
-pub member_or : (r w p : ℕ) → member (bit_or r w) p ≡ (member r p || member w p)
-member_or r w p =
-    ap (λ n. ltb p 64 && eqb n 1) (ap (λ x. x % 2) (or_shr r w p) ∙ or_bit (r / 2 ^ p) (w / 2 ^ p)) ∙ either_bit p (r / 2 ^ p % 2) (w / 2 ^ p % 2) (omega arith) (omega arith)
 
 pub union_holders : (r w : ℕ) → map (λ p. 72 + p) (those_below 64 (member (bit_or r w))) ≡ place_holders r w
 unfolding place_holders

@@ -1,4 +1,4 @@
-// Whether the access of a slot has reached a holder.
+// What is asked of the keeper: whether the access of a slot has reached a holder, and how many passes there were.
 ghost use Rattle.std.specs.Prelude.{◌≡◌};
 ghost use Rattle.slots.specs.Made.{held};
 
@@ -11,5 +11,12 @@ impl<K: Keeper> Slots<K> {
         ensures { result ≡ held (K.meaning self.now.keeper) slot holder }
     {
         self.keeper.ask(slot, holder).unwrap_or(false)
+    }
+
+    // How many passes the keeper has counted.
+    pub fn passes(&self) -> u32
+        ensures { result ≡ (K.meaning self.now.keeper).passes }
+    {
+        self.keeper.count()
     }
 }

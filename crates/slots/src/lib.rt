@@ -10,6 +10,7 @@ mod serials;
 mod table;
 mod work;
 
+pub use passes::passes_of;
 pub use race::Racing;
 pub use serials::Serials;
 pub use table::{Slots, Told};

@@ -1,8 +1,11 @@
-// Passes between a thread and those with whom its event shares.
+// Passes between a thread and those with whom its event shares, and how many an event makes.
+ghost use Rattle.std.specs.Prelude.{◌≡◌};
+ghost use Rattle.order.specs.Work.{passes_of};
 ghost use Rattle.slots.specs.Made.{Made, passes_in, passes_out};
 ghost use Rattle.slots.specs.HoldersLeft.{holders_left};
 
 use crate::holders::Holders;
+use events::{Action, Event};
 use keepers::Keeper;
 
 // Passes from each holder to the thread. What the keeper refuses changes nothing.
@@ -21,5 +24,18 @@ pub(crate) fn pass_out<K: Keeper>(keeper: &mut K, holders: Holders, thread: u8)
 {
     for holder in holders {
         let _ = keeper.pass(thread, holder);
+    }
+}
+
+// How many passes the event makes where it is accepted.
+pub fn passes_of(event: Event) -> u32
+    ensures { result ≡ passes_of event }
+{
+    match event.action {
+        Action::Read { .. } | Action::Write { .. } | Action::Allocate { .. } => 0,
+        Action::Acquire { .. } | Action::ReadFlag { .. } | Action::Join { .. } => 1,
+        Action::Release { .. } | Action::WriteFlag { .. } | Action::Fork { .. } => 1,
+        // from each place of either set to the thread, and back
+        Action::Commit { reads, writes } => 2 * reads.union(writes).len(),
     }
 }

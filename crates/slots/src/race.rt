@@ -7,8 +7,7 @@ ghost use Rattle.order.specs.Cells.{pending as pending_in};
 ghost use Rattle.order.specs.Judgement.{found};
 ghost use Rattle.order.specs.Searches.{or_else};
 ghost use Rattle.order.specs.Slots.{taken};
-ghost use Rattle.slots.specs.Bounds.{InBounds};
-ghost use Rattle.slots.specs.Made.{set_at, held};
+ghost use Rattle.slots.specs.Made.{held, held_at};
 ghost use Rattle.slots.specs.Searched.{serials_of, sets_of};
 ghost use Rattle.slots.specs.Serials.{number_at, serial_at};
 ghost use Rattle.slots.specs.Told.{found_as};
@@ -28,9 +27,10 @@ pub struct Racing {
 
 impl<K: Keeper> Slots<K> {
     // The race that the event would make, if any. A read or a write has one place, a commit those
-    // of its sets, any other event none.
+    // of its sets, any other event none. Where a number of the event is out of range, there is no
+    // access of it, or nobody whom it has reached.
     pub fn race(&self, event: Event) -> Option<Racing>
-        ensures { InBounds event → found_as result ≡ cell_race event (serial_at self.now.serials) (set_at (K.meaning self.now.keeper)) }
+        ensures { found_as result ≡ cell_race event (serial_at self.now.serials) (held_at (K.meaning self.now.keeper)) }
     {
         match event.action {
             Action::Read { place } | Action::Write { place } => {

@@ -8,6 +8,6 @@ returns g c =
     let ran = c.run_out-end.new.run in
     let end = c.run_out-end.result in
     let fresh = c.new-reader.ensures in
-    let run = rw (fresh.0, fresh.1) at (c.run_out-end.ensures.run [] c.start.ensures) in
+    let run = rw (fresh.0, fresh.1) at (c.run_out-end.ensures.run [] c.start.ensures.stands) in
     let t = text c.accepted.result ran.findings end in
     (t, certifies c.args.bytes.now _ ran.monitor ran.findings end c.accepted.result run c.accepted.ensures t refl, rw c.as_slice.ensures.items at c.write_text.ensures)

@@ -6,5 +6,5 @@ pub returns : goal.returns
 returns g c =
     let ran = c.run_file-ran.result in
     let fresh = c.new-reader.ensures in
-    let run = rw (fresh.0, fresh.1) at (c.run_file-ran.ensures.run [] c.start.ensures) in
+    let run = rw (fresh.0, fresh.1) at (c.run_file-ran.ensures.run [] c.start.ensures.stands) in
     certifies_string c.args.bytes.now _ ran.monitor ran.findings ran.end c.accepted.result run c.accepted.ensures c.text_of.result (rw c.as_slice.ensures.items at c.text_of.ensures)

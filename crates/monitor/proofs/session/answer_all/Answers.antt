@@ -6,7 +6,7 @@ use Rattle.monitor.proofs.session.answer_all.Goals as goal
 pub loop-call-init : goal.loop-call-init
 loop-call-init g c =
     let room = c.clear.ensures in
-    (sofar_none (deque_items c.args.calls) _ c.start-monitor.result room.items c.start-monitor.ensures, omega (arith, room.len, room.capacity, c.len.ensures), room.capacity)
+    (sofar_none (deque_items c.args.calls) _ c.start-monitor.result room.items c.start-monitor.ensures.stands, omega (arith, room.len, room.capacity, c.len.ensures), room.capacity)
 
 pub loop-call-preserved : goal.loop-call-preserved
 loop-call-preserved g c =
