@@ -1,5 +1,5 @@
 -- What the demo prints. Assumes nothing. Of a sink, `old` and `new` are the bytes that are known before and after.
---   Tells ps t            t is the text of the parts ps, with replies to their calls that keep the monitor's promise
+--   Tells ps t            t is the text of the parts ps, with the only replies to their calls that keep the monitor's promise
 --   Shows ps old new r    without a failure just such a text was printed; nothing where memory was wanting; else a front of it
 --   FailsByMemory r       if there is a failure, memory was wanting
 use Rattle.std.specs.Prelude.{◌≡◌, ℕ, List, [], Ok, Err, Option, Result}
@@ -16,6 +16,7 @@ use Rattle.weighings.specs.Texts.{demo_text}
 pub record Tells (ps : List Part) (text : List ℕ) : Type 0 where
   pub replies : List Reply
   pub right : Promise [] (calls_of ps) replies
+  pub only : (others : List Reply) → Promise [] (calls_of ps) others → others ≡ replies
   pub is : text ≡ demo_text ps replies
 
 abbrev pub Shows : List Part → Option (List ℕ) → Option (List ℕ) → Result (Unit {0}) Failure → Type 0
