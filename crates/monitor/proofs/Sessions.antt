@@ -5,20 +5,14 @@ use Rattle.std.proofs.lemmas.List.{append-nil, append_assoc}
 use Rattle.std.proofs.ByRecursion.{All-weaker}
 use Rattle.events.specs.declared.Event.{Event}
 use Rattle.keepers.specs.declared.keeper.Keeper.{Ghosts}
-use Rattle.order.specs.Conflicts.{RaceFree}
 use Rattle.order.specs.Examples.{answers, examples}
-use Rattle.order.specs.Faults.{Lawful}
 use Rattle.order.specs.Judgement.{recorded}
 use Rattle.order.proofs.Examples.{as_worked}
-use Rattle.order.proofs.Judgement.{right_at}
-use Rattle.order.proofs.Rearrangements.{own_order, same_reads}
-use Rattle.order.proofs.Roster.{holder_runs}
 use Rattle.monitor.specs.declared.monitor.Monitor.{Monitor}
 use Rattle.monitor.specs.declared.session.Call.{Call}
 use Rattle.monitor.specs.declared.session.Call.TheVariants.{Offer}
 use Rattle.monitor.specs.declared.session.Reply.{Reply}
 use Rattle.monitor.specs.declared.session.Reply.TheVariants.{Judged, Counted, Shown}
-use Rattle.monitor.specs.declared.verdict.Verdict.{Verdict}
 use Rattle.monitor.specs.Answers.{told}
 use Rattle.monitor.specs.Stands.{Stands}
 use Rattle.monitor.specs.Promise.{RightReply, after, record_after, Promise, told_replies, AnsweredAs}

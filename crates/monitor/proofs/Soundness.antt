@@ -1,5 +1,5 @@
 -- A record for which a monitor stands is sound, and the judgement on it is right. Assumes nothing.
-use Rattle.std.proofs.Common.{◌≡◌, List, Ok, Err, Result, sym, refl, subst}
+use Rattle.std.proofs.Common.{◌≡◌, List, Ok, Err, Result, sym, refl}
 use Rattle.events.specs.declared.Event.{Event}
 use Rattle.keepers.specs.declared.keeper.Keeper.{Ghosts}
 use Rattle.order.specs.Conflicts.{RaceFree}

@@ -1,6 +1,6 @@
 -- A monitor stands for the empty record at first, judges by what it holds, and stands for what it accepts. Assumes nothing.
-use Rattle.std.proofs.Common.{◌≡◌, ℕ, ◌+◌, ◌*◌, ◌<◌, ◌≤◌, false, cond, ◌&&◌, ◌||◌, ltb, leb, List, [], ◌∷◌, length, Some, None, Ok, Err, Option, Result, sym, ap, ◌∙◌, subst, arith}
-use Rattle.std.proofs.lemmas.Bool.{leb-false, lt-ltb, lt-leb, and_from, or_from, cond-true, cond-false}
+use Rattle.std.proofs.Common.{◌≡◌, ℕ, ◌+◌, ◌*◌, ◌<◌, ◌≤◌, List, [], ◌∷◌, length, None, Ok, Err, Option, sym, ap, ◌∙◌, subst, arith}
+use Rattle.std.proofs.lemmas.Bool.{leb-false}
 use mathlib.Core.Path.{fun_ext}
 use Rattle.events.specs.declared.Event.{Event}
 use Rattle.keepers.specs.declared.keeper.Keeper.{Ghosts}
@@ -8,13 +8,10 @@ use Rattle.keepers.specs.Meaning.{cleared}
 use Rattle.keepers.proofs.Laws.{sets_cleared, passes_cleared}
 use Rattle.order.specs.Cells.{Cell, cell_race}
 use Rattle.order.specs.Faults.{fault, faults, record_full}
-use Rattle.order.specs.Judgement.{accepted, refused, declined, Finding, judge, ruled}
-use Rattle.order.specs.Questions as questions
-use Rattle.order.specs.Questions.{cell_told}
+use Rattle.order.specs.Judgement.{accepted, refused, Finding, judge, ruled}
 use Rattle.order.specs.Slots.{changed}
 use Rattle.order.specs.Verdicts.{NoFault}
 use Rattle.order.specs.Work.{calls, passes_of}
-use Rattle.order.proofs.Questions.{told_by_cell}
 use Rattle.order.proofs.Cells.{judge_by_cells, cell_start, cell_step, cell_verdict}
 use Rattle.order.proofs.Faults.{no_fault_iff}
 use Rattle.order.proofs.Judgement.{judge_refused, right_at, accepted_free, accepted_lawful, nothing_races}
@@ -24,17 +21,13 @@ use Rattle.roster.specs.declared.fault.RuleFault.{RuleFault}
 use Rattle.roster.specs.Follows.{Fresh, Noted}
 use Rattle.roster.specs.Numbers.{fault_number, numbered, refused as roster_refused}
 use Rattle.roster.proofs.Following.{rule_tells, follows_none, follows_note}
-use Rattle.slots.specs.declared.table.Told.{Told}
 use Rattle.slots.specs.Bounds.{InBounds}
-use Rattle.slots.specs.Told.{told_as}
 use Rattle.slots.specs.Made.{made, set_at, held_at}
 use Rattle.slots.specs.Serials.{Numbered, serial_at}
 use Rattle.slots.proofs.Effects.{made_sets, made_passes}
 use Rattle.slots.proofs.Found.{race_in_range}
 use Rattle.slots.proofs.Ranges.{in_bounds}
 use Rattle.monitor.specs.declared.monitor.Monitor.{Monitor}
-use Rattle.monitor.specs.declared.verdict.Access.{Access}
-use Rattle.monitor.specs.Answers.{slot_of, no_reader, asked}
 use Rattle.monitor.specs.Stands.{Stands}
 
 -- a monitor over a cleared keeper, with a new roster and no serials

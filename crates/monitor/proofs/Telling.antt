@@ -5,12 +5,11 @@ use Rattle.std.specs.Prelude.{Decides}
 use Rattle.events.specs.declared.Event.{Event}
 use Rattle.events.specs.declared.Action.TheVariants.{Read}
 use Rattle.order.specs.Acts.{by}
-use Rattle.order.specs.Holders.{of_thread, reached}
 use Rattle.order.specs.Questions as questions
 use Rattle.keepers.specs.declared.keeper.Keeper.{Ghosts}
 use Rattle.order.specs.Questions.{access_told, slot_told, cell_told}
 use Rattle.order.specs.Slots.{slot_access}
-use Rattle.order.specs.Verdicts.{LatestWrite, LatestRead, Before}
+use Rattle.order.specs.Verdicts.{Before}
 use Rattle.order.proofs.Options.{some_not_none, same_some}
 use Rattle.order.proofs.Questions.{slot_stands, told_by_cell}
 use Rattle.order.proofs.Reach.{reached_ordered}
@@ -24,7 +23,7 @@ use Rattle.monitor.specs.declared.verdict.Access.{Access}
 use Rattle.monitor.specs.declared.verdict.Access.TheVariants as access
 use Rattle.monitor.specs.declared.verdict.Question.{Question}
 use Rattle.monitor.specs.Answers.{slot_of, no_reader, asked}
-use Rattle.monitor.specs.Shown.{AskedOf, Tells, RightlyTold}
+use Rattle.monitor.specs.Shown.{AskedOf, RightlyTold}
 use Rattle.monitor.specs.Stands.{Stands}
 
 -- a slot has the access that is asked of

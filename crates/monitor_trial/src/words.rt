@@ -19,7 +19,12 @@ impl fmt::Display for Words<RuleFault> {
 impl fmt::Display for Words<Option<&Offered>> {
     fn fmt<W: fmt::Write>(&self, f: &mut fmt::Formatter<W>) -> fmt::Result {
         match self.0 {
-            Some(offered) => write!(f, "{}, passes up to {}", Words(offered.verdict), offered.after),
+            Some(offered) => write!(
+                f,
+                "{}, passes up to {}",
+                Words(offered.verdict),
+                offered.after
+            ),
             None => write!(f, "nothing"),
         }
     }

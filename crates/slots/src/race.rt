@@ -27,8 +27,8 @@ pub struct Racing {
 
 impl<K: Keeper> Slots<K> {
     // The race that the event would make, if any. A read or a write has one place, a commit those
-    // of its sets, any other event none. Where a number of the event is out of range, there is no
-    // access of it, or nobody whom it has reached.
+    // of its sets, any other event none. Any event is answered, whatever its numbers: a place out of
+    // range has no access, and a holder out of range is in no set.
     pub fn race(&self, event: Event) -> Option<Racing>
         ensures { found_as result ≡ cell_race event (serial_at self.now.serials) (held_at (K.meaning self.now.keeper)) }
     {
