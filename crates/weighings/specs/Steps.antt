@@ -1,6 +1,7 @@
 -- What the steps ask a monitor for. Assumes nothing.
 --   slip_with t r w   the slip of the thread t with the read set r and the write set w
 --   call_of s         the call that the step s asks for
+--   steps_of p        the steps of the part p
 --   calls_of ps       the calls that the steps of the parts ps ask for, in order
 use Rattle.std.specs.Prelude.{ℕ, List, map}
 use Rattle.std.specs.List.{flat_map}

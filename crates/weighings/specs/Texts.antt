@@ -1,7 +1,9 @@
 -- What is printed of a step, of the reply to it, and of parts with the replies to their steps. Assumes nothing.
---   places_text ps      the places ps, as `place 6, place 7`, or `nothing`
---   question_text q     whose access of a place the question q is about, and whom it is to have reached
+--   places_text ps, set_text s   the places ps, or those of the set s, as `place 6, place 7`, or `nothing`
+--   question_text q     whose access of a place the question q is about (`access_text`), and whom it is to have reached
 --   step_text s         what the step s asks for
+--   refusal_text f      a refusal with the fault f, its number and what it means
+--   verdict_text v, shown_text x   the verdict v on an event, and what a question comes to
 --   reply_text r        the reply r
 --   line_text (s, r)    the line of the step s with the reply r, with its line feed
 --   part_text p rs      the title of the part p, and a line for each of its steps, with the replies rs

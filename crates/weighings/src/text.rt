@@ -3,7 +3,7 @@ ghost use Rattle.std.specs.Prelude.{◌≡◌, drop, Some};
 ghost use Rattle.weighings.specs.Texts.{part_text, demo_text};
 
 use crate::steps::Part;
-use crate::words::Answer;
+use crate::words::ReplyText;
 use monitor::Reply;
 use std::fmt;
 
@@ -20,7 +20,7 @@ impl fmt::Display for PartText<'_> {
     fn fmt<W: fmt::Write>(&self, f: &mut fmt::Formatter<W>) -> fmt::Result {
         writeln!(f, "{}", self.part.title)?;
         for (step, reply) in self.part.steps.iter().zip(self.replies) {
-            writeln!(f, "  {step} {}", Answer(*reply))?;
+            writeln!(f, "  {step} {}", ReplyText(*reply))?;
         }
         Ok(())
     }

@@ -1,4 +1,4 @@
-// Calls and answers in words.
+// Calls and replies in words.
 ghost use Rattle.std.specs.Prelude.{Some};
 ghost use Rattle.weighings.specs.Texts.{set_text, question_text, step_text, reply_text};
 
@@ -76,11 +76,11 @@ impl fmt::Display for Step {
     }
 }
 
-// The answer to a call.
+// The reply to a call.
 #[derive(Drop)]
-pub(crate) struct Answer(pub(crate) Reply);
+pub(crate) struct ReplyText(pub(crate) Reply);
 
-impl fmt::Display for Answer {
+impl fmt::Display for ReplyText {
     ghost output = { λ a. Some (reply_text a.0) };
 
     fn fmt<W: fmt::Write>(&self, f: &mut fmt::Formatter<W>) -> fmt::Result {
