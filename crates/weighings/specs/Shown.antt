@@ -1,6 +1,6 @@
 -- What the demo prints. Assumes nothing. Of a sink, `old` and `new` are the bytes that are known before and after.
---   Tells ps t            t is the text of the parts ps, with the only replies to their calls that keep the monitor's promise
---   Shows ps old new r    without a failure just such a text was printed; nothing where memory was wanting; else a front of it
+--   Tells ps t            t is the text of the parts ps, with the only replies to their calls that keep the promise
+--   Shows ps old new r    without a failure just that text was printed; where memory was wanting nothing; else a front
 --   FailsByMemory r       if there is a failure, memory was wanting
 use Rattle.std.specs.Prelude.{◌≡◌, ℕ, List, [], Ok, Err, Option, Result}
 use Rattle.std.specs.Io.KnownBytes.{Appends}

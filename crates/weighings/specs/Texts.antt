@@ -1,6 +1,7 @@
 -- What is printed of a step, of the reply to it, and of parts with the replies to their steps. Assumes nothing.
 --   places_text ps, set_text s   the places ps, or those of the set s, as `place 6, place 7`, or `nothing`
 --   question_text q     whose access of a place the question q is about (`access_text`), and whom it is to have reached
+--   slip_text r w       a commit's slip with the read set r and the write set w
 --   step_text s         what the step s asks for
 --   refusal_text f      a refusal with the fault f, its number and what it means
 --   verdict_text v, shown_text x   the verdict v on an event, and what a question comes to
@@ -40,15 +41,19 @@ set_text s = places_text (those_below 64 (member s.word))
 
 abbrev pub access_text : ℕ → Access → List ℕ
 access_text p access.Write = codes "has the latest write of place " ++ decimal p
-access_text p (access.Read t) = codes "has the latest read of place " ++ (decimal p ++ (codes " by thread " ++ decimal t))
+access_text p (access.Read t) =
+    codes "has the latest read of place " ++ (decimal p ++ (codes " by thread " ++ decimal t))
 
 abbrev pub question_text : Question → List ℕ
 question_text q = access_text q.place q.access ++ (codes " reached thread " ++ (decimal q.thread ++ codes "?"))
 
+abbrev pub slip_text : PlaceSet → PlaceSet → List ℕ
+slip_text r w =
+    codes " commits a slip that reads " ++ (set_text r ++ (codes " and writes " ++ (set_text w ++ codes ":")))
+
 abbrev pub step_text : Step → List ℕ
 step_text (Offer t a) = codes "thread " ++ (decimal t ++ (codes " " ++ (action_text a ++ codes ":")))
-step_text (Commit t r w) =
-    codes "thread " ++ (decimal t ++ (codes " commits a slip that reads " ++ (set_text r ++ (codes " and writes " ++ (set_text w ++ codes ":")))))
+step_text (Commit t r w) = codes "thread " ++ (decimal t ++ slip_text r w)
 step_text Count = codes "how many events are accepted?"
 step_text (Ask q) = question_text q
 
