@@ -4,37 +4,16 @@
 #![tactic(auto)]
 
 mod calls;
+mod show;
 mod steps;
+mod text;
 mod words;
 
-use anyhow::ensure;
-use calls::listed;
-use clocks::Clocks;
-use monitor::{Reply, answer_all};
-use std::slice;
-use steps::{PARTS, Part, STEPS};
-use words::Answer;
+use show::show;
+use std::io;
+use steps::PARTS;
+use streams::System;
 
-// Tells the calls of a part with the next answers.
-fn tell(rt: &HostRuntime, part: &Part, replies: &mut slice::Iter<Reply>) -> anyhow::Result<()> {
-    println!(rt; "{}", part.title)?;
-    for (step, reply) in part.steps.iter().zip(replies) {
-        println!(rt; "  {step} {}", Answer(*reply))?;
-    }
-    Ok(())
-}
-
-fn main(rt: HostRuntime) -> anyhow::Result<()> {
-    // Room for the replies comes first: once calls are listed, want of memory would have to let them go.
-    let mut replies = Vec::with_capacity(rt.alloc(), STEPS)?;
-    let calls = listed(rt.alloc(), &PARTS)?;
-    ensure!(
-        answer_all(Clocks::new(), calls, &mut replies).is_ok(),
-        "less room than calls"
-    );
-    let mut told = replies.iter();
-    for part in &PARTS {
-        tell(&rt, part, &mut told)?;
-    }
-    Ok(())
+fn main(rt: HostRuntime) -> io::Result<()> {
+    Ok(show(rt.alloc(), &PARTS, &mut System(rt.stdout()))?)
 }

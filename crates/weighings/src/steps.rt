@@ -124,6 +124,3 @@ pub(crate) const PARTS: [Part; 4] = [
         steps: &THREE,
     },
 ];
-
-// How many steps they have together.
-pub(crate) const STEPS: usize = BEFORE.len() + ONE.len() + TWO.len() + THREE.len();

@@ -1,4 +1,7 @@
-// Calls and answers in words.
+// Calls and replies in words.
+ghost use Rattle.std.specs.Prelude.{Some};
+ghost use Rattle.weighings.specs.Texts.{set_text, question_text, step_text, reply_text};
+
 use crate::steps::Step;
 use events::PlaceSet;
 use monitor::{Access, Question, Reply, Verdict};
@@ -10,6 +13,8 @@ use std::fmt;
 struct Places(PlaceSet);
 
 impl fmt::Display for Places {
+    ghost output = { λ s. Some (set_text s.0) };
+
     fn fmt<W: fmt::Write>(&self, f: &mut fmt::Formatter<W>) -> fmt::Result {
         let mut places = self.0.iter();
         let Some(first) = places.next() else {
@@ -28,6 +33,8 @@ impl fmt::Display for Places {
 struct Asked(Question);
 
 impl fmt::Display for Asked {
+    ghost output = { λ q. Some (question_text q.0) };
+
     fn fmt<W: fmt::Write>(&self, f: &mut fmt::Formatter<W>) -> fmt::Result {
         let Question {
             place,
@@ -46,6 +53,8 @@ impl fmt::Display for Asked {
 
 // The call, up to its answer.
 impl fmt::Display for Step {
+    ghost output = { λ s. Some (step_text s) };
+
     fn fmt<W: fmt::Write>(&self, f: &mut fmt::Formatter<W>) -> fmt::Result {
         match *self {
             Step::Offer(thread, action) => write!(f, "thread {thread} {action}:"),
@@ -67,11 +76,13 @@ impl fmt::Display for Step {
     }
 }
 
-// The answer to a call.
+// The reply to a call.
 #[derive(Drop)]
-pub(crate) struct Answer(pub(crate) Reply);
+pub(crate) struct ReplyText(pub(crate) Reply);
 
-impl fmt::Display for Answer {
+impl fmt::Display for ReplyText {
+    ghost output = { λ a. Some (reply_text a.0) };
+
     fn fmt<W: fmt::Write>(&self, f: &mut fmt::Formatter<W>) -> fmt::Result {
         match self.0 {
             Reply::Judged(Verdict::Accepted { serial }) => write!(f, "accepted as event {serial}"),
