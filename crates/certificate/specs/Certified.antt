@@ -6,14 +6,16 @@
 --   RefusedFile bytes o l       a fault ended the run; the line l tells its number and site, and it is the first that applies
 --   Ends l                      the line l is `clean` or `not clean`, or begins with `refused `
 --   Tells bytes t events o      the text t has such a last line, and by its bytes the file is clean, racy or refused
---   Certifies bytes t           t is the text of the run of the file by a monitor with an empty record, and what it says is so
+--   Certifies bytes t           t is the text of the run of the file by a monitor with an empty record, what it says is so, and it
+--                               is no longer than a certificate can be
 --   Agree                       a file has one certificate, whatever keeper the monitor stands over
-use Rattle.std.specs.Prelude.{◌≡◌, ℕ, ◌<◌, ◌⊎◌, List, [], ◌++◌, reverse, length, Some, codes}
+use Rattle.std.specs.Prelude.{◌≡◌, ℕ, ◌<◌, ◌≤◌, ◌⊎◌, List, [], ◌++◌, reverse, length, Some, codes}
 use Rattle.events.specs.declared.Event.{Event}
 use Rattle.trace.specs.Reading.{outside}
 use Rattle.trace.specs.Whole.{Contains}
 use Rattle.monitor.specs.Promise.{Sound}
 use Rattle.certificate.specs.declared.fault.Fault.{Fault}
+use Rattle.certificate.specs.declared.text.TheConstants.{LONGEST_TEXT}
 use Rattle.certificate.specs.Running.{Outcome, Runs}
 use Rattle.certificate.specs.Sentence.{ListsRaces, EndsRightly, Sentence}
 use Rattle.certificate.specs.Texts.{fault_text, text}
@@ -53,6 +55,7 @@ pub record Certifies (bytes t : List ℕ) : Type 0 where
   pub says : Sentence bytes outside [] events outcome
   pub is : t ≡ text (length outcome.recorded_as) outcome.findings outcome.end
   pub tells : Tells bytes t events outcome
+  pub fits : length t ≤ LONGEST_TEXT
 
 abbrev pub Agree : Type 0
 Agree = (bytes t t' : List ℕ) → Certifies bytes t → Certifies bytes t' → t ≡ t'

@@ -4,5 +4,6 @@ pub mod Sentence
 pub mod Texts
 pub mod LastLine
 pub mod Certified
+pub mod MadeBy
 pub mod Call
 pub mod Host

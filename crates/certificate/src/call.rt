@@ -1,7 +1,8 @@
-// What a host asks for by number, and by which number it is told that there is no certificate.
+// What a host asks for by number, what it is told of a certificate, and by which number that there is none.
 ghost use Rattle.std.specs.Prelude.{◌≡◌, Some};
 ghost use Rattle.certificate.specs.Call.{NamedBy, fault_answer, fault_words};
 
+use crate::ending::Ending;
 use std::error::Error;
 use std::fmt;
 
@@ -12,6 +13,13 @@ pub enum KeeperKind {
     Clocks,
     LayeredLocksets,
     LayeredClocks,
+}
+
+// A certificate that is written: how long its text is, and how it ends.
+#[derive(Clone, Copy, PartialEq, Eq, Debug)]
+pub struct Summary {
+    pub length: usize,
+    pub ending: Ending,
 }
 
 // Why no certificate is written.

@@ -1,13 +1,14 @@
 // The certificate of a file, over any keeper.
-ghost use Rattle.std.specs.Prelude.{IfOk, string_bytes};
-ghost use Rattle.certificate.specs.Certified.{Certifies, Agree};
+ghost use Rattle.std.specs.Prelude.{◌≤◌, length, IfOk, IsOk, string_bytes};
+ghost use Rattle.certificate.specs.Certified.{Agree};
+ghost use Rattle.certificate.specs.MadeBy.{MadeOver};
 ghost use Rattle.certificate.specs.Host.{CertifiedInto};
 
-use crate::call::CallFault;
+use crate::call::{CallFault, Summary};
 use crate::finding::Findings;
 use crate::run::Run;
 use crate::running::{run_file, run_out};
-use crate::text::{Certificate, text_of};
+use crate::text::{Certificate, LONGEST_TEXT, text_of};
 use crate::writing::write_text;
 use keepers::Keeper;
 use monitor::Monitor;
@@ -20,7 +21,7 @@ pub fn certificate_of<K: Keeper + Drop>(
     bytes: &[u8],
     keeper: K,
 ) -> Result<String, AllocError>
-    ensures { IfOk result (λ t. Certifies bytes.now (string_bytes t)) }
+    ensures { IfOk result (λ t. MadeOver K.Keeper bytes.now (string_bytes t)) }
 {
     let mut reader = Reader::new(bytes);
     let ran = run_file(&mut reader, Monitor::start(keeper));
@@ -37,8 +38,9 @@ pub(crate) fn certificate_into<K: Keeper + Drop>(
     bytes: &[u8],
     keeper: K,
     out: &mut [u8],
-) -> Result<usize, CallFault>
-    ensures { CertifiedInto bytes.now out.old out.new result }
+) -> Result<Summary, CallFault>
+    ensures made { CertifiedInto (MadeOver K.Keeper bytes.now) out.old out.new result }
+    ensures room { LONGEST_TEXT ≤ length out.old → IsOk result }
 {
     let mut reader = Reader::new(bytes);
     let mut run = Run {

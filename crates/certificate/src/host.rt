@@ -1,46 +1,39 @@
 // The call for hosts, in Rattle and in C.
-ghost use Rattle.std.specs.Prelude.{◌≡◌};
+ghost use Rattle.std.specs.Prelude.{◌≡◌, ◌≤◌, length, IsOk};
 ghost use Rattle.certificate.specs.Host.{CertifiedInto, CertifiedAs, HostAnswer};
+ghost use Rattle.certificate.specs.MadeBy.{MadeBy};
 
-use crate::call::{CallFault, KeeperKind};
+use crate::call::{CallFault, KeeperKind, Summary};
 use crate::certificate::certificate_into;
-use crate::kinds::Kinded;
+use crate::text::LONGEST_TEXT;
 use clocks::Clocks;
 use locksets::Locksets;
 use shortcut::ShortCut;
 
-// The certificate of the trace over the keeper, which is of the kind that is asked for.
-fn certify_over<K: Kinded + Drop>(
+// Makes the certificate of the trace over a keeper of the kind, writes it to the front of the buffer and tells its length and
+// how it ends. The buffer stays as it was where the text does not fit. No heap is used.
+pub fn certify_into(
     trace: &[u8],
-    _kind: KeeperKind,
-    keeper: K,
+    kind: KeeperKind,
     out: &mut [u8],
-) -> Result<usize, CallFault>
-    requires { _kind ≡ K.kind }
-    ensures { CertifiedInto trace.now out.old out.new result }
-{
-    certificate_into(trace, keeper, out)
-}
-
-// Makes the certificate of the trace over a keeper of the kind, writes it to the front of the buffer and answers its length.
-// The buffer stays as it was where the text does not fit. No heap is used.
-pub fn certify_into(trace: &[u8], kind: KeeperKind, out: &mut [u8]) -> Result<usize, CallFault>
-    ensures { CertifiedInto trace.now out.old out.new result }
+) -> Result<Summary, CallFault>
+    ensures made { CertifiedInto (MadeBy kind trace.now) out.old out.new result }
+    ensures room { LONGEST_TEXT ≤ length out.old → IsOk result }
 {
     match kind {
-        KeeperKind::Locksets => certify_over(trace, kind, Locksets::new(), out),
-        KeeperKind::Clocks => certify_over(trace, kind, Clocks::new(), out),
+        KeeperKind::Locksets => certificate_into(trace, Locksets::new(), out),
+        KeeperKind::Clocks => certificate_into(trace, Clocks::new(), out),
         KeeperKind::LayeredLocksets => {
-            certify_over(trace, kind, ShortCut::new(Locksets::new()), out)
+            certificate_into(trace, ShortCut::new(Locksets::new()), out)
         }
         KeeperKind::LayeredClocks => {
-            certify_over(trace, kind, ShortCut::new(Clocks::new()), out)
+            certificate_into(trace, ShortCut::new(Clocks::new()), out)
         }
     }
 }
 
 // The same for the kind of that number, if there is one.
-fn certify_as(trace: &[u8], kind: u32, out: &mut [u8]) -> Result<usize, CallFault>
+fn certify_as(trace: &[u8], kind: u32, out: &mut [u8]) -> Result<Summary, CallFault>
     ensures { CertifiedAs trace.now kind out.old out.new result }
 {
     certify_into(trace, KeeperKind::try_from(kind)?, out)
@@ -54,7 +47,7 @@ pub extern "C" fn wickerheron_certify(trace: &[u8], kind: u32, out: &mut [u8]) -
     ensures { HostAnswer trace.now kind out.old out.new result }
 {
     match certify_as(trace, kind, out) {
-        Ok(length) => length as i64,
+        Ok(told) => told.length as i64,
         Err(fault) => fault.number(),
     }
 }

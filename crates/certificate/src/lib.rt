@@ -3,10 +3,10 @@
 
 mod call;
 mod certificate;
+mod ending;
 mod fault;
 mod finding;
 mod host;
-mod kinds;
 mod line;
 mod listing;
 mod run;
@@ -14,11 +14,12 @@ mod running;
 mod text;
 mod writing;
 
-pub use call::{CallFault, KeeperKind};
+pub use call::{CallFault, KeeperKind, Summary};
 pub use certificate::{certificate_of, certificates_agree};
+pub use ending::Ending;
 pub use fault::{Cause, Fault, RunFault};
 pub use finding::{Finding, Findings};
 pub use host::{certify_into, wickerheron_certify};
 pub use run::{Ran, Run};
 pub use running::run_file;
-pub use text::{Certificate, text_of};
+pub use text::{Certificate, LONGEST_TEXT, text_of};

@@ -1,12 +1,17 @@
 // The text of a certificate.
 ghost use Rattle.std.specs.Prelude.{◌≡◌, IfOk, Some, string_bytes};
+ghost use Rattle.certificate.specs.LastLine.{EndsAs};
 ghost use Rattle.certificate.specs.Texts.{finding_text, fault_text, text as whole_text};
 
+use crate::ending::Ending;
 use crate::fault::Fault;
 use crate::finding::Finding;
 use std::alloc::{AllocError, Global};
 use std::error::Error;
 use std::fmt;
+
+// No certificate of a file is longer than this, whatever it tells.
+pub const LONGEST_TEXT: usize = 35_075;
 
 // What a certificate tells: how many events are accepted, the findings, and the fault that ended the run, if one did.
 #[derive(Clone, Copy, Debug)]
@@ -14,6 +19,19 @@ pub struct Certificate<'a> {
     pub accepted: u32,
     pub findings: &'a [Finding],
     pub end: Option<Fault>,
+}
+
+impl Certificate<'_> {
+    // How it ends, as the last line of its text tells.
+    pub fn ending(&self) -> Ending
+        ensures { EndsAs (whole_text self.now.accepted self.now.findings.now self.now.end) result }
+    {
+        match (self.end, self.findings) {
+            (Some(_), _) => Ending::Refused,
+            (None, []) => Ending::Clean,
+            (None, _) => Ending::NotClean,
+        }
+    }
 }
 
 impl fmt::Display for Finding {

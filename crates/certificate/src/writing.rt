@@ -3,7 +3,7 @@ ghost use Rattle.std.specs.Prelude.{◌≡◌, ◌≤◌, [], ◌∷◌, ◌++�
 ghost use Rattle.certificate.specs.Texts.{finding_text, fault_text, first_text, last_text, text as whole_text};
 ghost use Rattle.certificate.specs.Host.{Placed};
 
-use crate::call::CallFault;
+use crate::call::{CallFault, Summary};
 use crate::fault::Fault;
 use crate::finding::Finding;
 use crate::line::Line;
@@ -93,7 +93,7 @@ fn put_text(certificate: &Certificate<'_>, out: &mut [u8])
 }
 
 // Writes the text to the front of the buffer, if it fits. It asks for no memory, as printing a certificate may.
-pub(crate) fn write_text(certificate: &Certificate<'_>, out: &mut [u8]) -> Result<usize, CallFault>
+pub(crate) fn write_text(certificate: &Certificate<'_>, out: &mut [u8]) -> Result<Summary, CallFault>
     requires { length certificate.now.findings.now ≤ 1000 }
     ensures { Placed (whole_text certificate.now.accepted certificate.now.findings.now certificate.now.end) out.old out.new result }
 {
@@ -102,5 +102,8 @@ pub(crate) fn write_text(certificate: &Certificate<'_>, out: &mut [u8]) -> Resul
         return Err(CallFault::NoRoom);
     }
     put_text(certificate, out);
-    Ok(length)
+    Ok(Summary {
+        length,
+        ending: certificate.ending(),
+    })
 }
