@@ -1,5 +1,5 @@
 -- A file has one outcome, and so one certificate. Assumes nothing.
-use Rattle.std.proofs.Common.{◌≡◌, ℕ, List, [], ◌∷◌, length, IfOk, Some, None, Ok, Err, string_bytes, Option, Result, String, sym, ap, ◌∙◌, subst, arith}
+use Rattle.std.proofs.Common.{◌≡◌, ℕ, ◌≤◌, List, [], ◌∷◌, length, IfOk, Some, None, Ok, Err, string_bytes, Option, Result, String, sym, ap, ◌∙◌, subst, arith}
 use Rattle.events.specs.declared.Event.{Event}
 use Rattle.order.specs.Judgement.{Answer, accepted, refused, declined, judge, recorded}
 use Rattle.roster.proofs.Numbers.{same_fault}
@@ -17,9 +17,12 @@ use Rattle.std.specs.declared.alloc.Global.{Global}
 use Rattle.keepers.specs.declared.keeper.Keeper.{Ghosts}
 use Rattle.monitor.specs.declared.monitor.Monitor.{Monitor}
 use Rattle.monitor.specs.Stands.{Stands}
-use Rattle.certificate.specs.Sentence.{Certified}
+use Rattle.certificate.specs.declared.text.TheConstants.{LONGEST_TEXT}
+use Rattle.certificate.specs.Sentence.{Sentence, Certified}
 use Rattle.certificate.specs.Texts.{text}
 use Rattle.certificate.specs.Certified.{Certifies, Agree}
+use Rattle.certificate.specs.MadeBy.{MadeOver}
+use Rattle.certificate.proofs.Bounds.{fits}
 use Rattle.certificate.proofs.LastLines.{tells}
 
 -- two causes that halt a run at one event are the same
@@ -66,21 +69,31 @@ pub agree : Agree
 agree bytes t t' c d =
     c.is ∙ ap (λ o. text (length o.recorded_as) o.findings o.end) (one_outcome bytes outside [] [] c.events d.events c.outcome d.outcome c.runs d.runs) ∙ sym d.is
 
--- the text that is made of what a run leaves
-pub certifies : {K : Type 0} {its : Ghosts K} (bytes : List ℕ) (q : Place) (m : Monitor K its) (fs : List Finding) (end : Option Fault) (n : ℕ) → Certified bytes outside [] q m fs end → ((rec : List Event) → Stands rec m → n ≡ length rec) → (t : List ℕ) → t ≡ text n fs end → Certifies bytes t
-certifies bytes q m fs end n run counts t is =
+-- a run makes a certificate
+pub certified : (bytes : List ℕ) (events : List Event) (o : Outcome) → Runs bytes outside [] [] events o → Sentence bytes outside [] events o → (t : List ℕ) → t ≡ text (length o.recorded_as) o.findings o.end → Certifies bytes t
+certified bytes events o runs says t is = record {
+  events = events;
+  outcome = o;
+  runs = runs;
+  says = says;
+  is = is;
+  tells = tells bytes t events o says is;
+  fits = subst (λ x. length x ≤ LONGEST_TEXT) (sym is) (fits bytes events o runs says);
+}
+
+-- the text that is made of what a run leaves, over the run's monitor
+pub made_over : {K : Type 0} {its : Ghosts K} (bytes : List ℕ) (q : Place) (m : Monitor K its) (fs : List Finding) (end : Option Fault) (n : ℕ) → Certified bytes outside [] q m fs end → ((rec : List Event) → Stands rec m → n ≡ length rec) → (t : List ℕ) → t ≡ text n fs end → MadeOver its bytes t
+unfolding certified
+made_over bytes q m fs end n run counts t is =
     let o : Outcome = record { recorded_as = run.came.rec'; findings = fs; end = end; place = q } in
     let told : t ≡ text (length o.recorded_as) fs end = is ∙ ap (λ k. text k fs end) (counts run.came.rec' run.came.stands) in
     record {
-      events = run.came.events;
-      outcome = o;
-      runs = run.came.runs;
-      says = run.says;
-      is = told;
-      tells = tells bytes t run.came.events o run.says told;
+      certifies = certified bytes run.came.events o run.came.runs run.says t told;
+      monitor = m;
+      stands = run.came.stands;
     }
 
 -- the same of a string, if there was memory for it
-pub certifies_string : {K : Type 0} {its : Ghosts K} (bytes : List ℕ) (q : Place) (m : Monitor K its) (fs : List Finding) (end : Option Fault) (n : ℕ) → Certified bytes outside [] q m fs end → ((rec : List Event) → Stands rec m → n ≡ length rec) → (r : Result (String Global) AllocError) → IfOk r (λ t. string_bytes t ≡ text n fs end) → IfOk r (λ t. Certifies bytes (string_bytes t))
-certifies_string bytes q m fs end n run counts (Ok t) is = certifies bytes q m fs end n run counts (string_bytes t) is
-certifies_string bytes q m fs end n run counts (Err e) is = tt
+pub made_string : {K : Type 0} {its : Ghosts K} (bytes : List ℕ) (q : Place) (m : Monitor K its) (fs : List Finding) (end : Option Fault) (n : ℕ) → Certified bytes outside [] q m fs end → ((rec : List Event) → Stands rec m → n ≡ length rec) → (r : Result (String Global) AllocError) → IfOk r (λ t. string_bytes t ≡ text n fs end) → IfOk r (λ t. MadeOver its bytes (string_bytes t))
+made_string bytes q m fs end n run counts (Ok t) is = made_over bytes q m fs end n run counts (string_bytes t) is
+made_string bytes q m fs end n run counts (Err e) is = tt

@@ -17,7 +17,8 @@ use Rattle.certificate.specs.Numbers.{number_of}
 use Rattle.certificate.specs.Running.{Outcome}
 use Rattle.certificate.specs.Sentence.{ListsRaces, ReadOut, Sentence}
 use Rattle.certificate.specs.Texts.{finding_text, fault_text, findings_text, first_text, last_text, text}
-use Rattle.certificate.specs.LastLine.{OneLine, WholeLines, LastLine}
+use Rattle.certificate.specs.declared.ending.Ending.TheVariants.{Clean, NotClean, Refused}
+use Rattle.certificate.specs.LastLine.{OneLine, WholeLines, LastLine, EndsAs}
 use Rattle.certificate.specs.Certified.{CleanFile, RacyFile, RefusedFile, Ends, Tells}
 
 -- what follows the last line feed, behind what was read of its line before
@@ -130,6 +131,21 @@ text_last a fs end = record {
   one_line = last_one fs end;
   whole_lines = inr (fed_before (first_text a (length fs)) (findings_text fs) (first_fed a (length fs)) (findings_lines fs));
 }
+
+-- the ending that the last line tells
+pub ends_clean : (a : ℕ) (fs : List Finding) (end : Option Fault) → length fs < 1 → end ≡ None → EndsAs (text a fs end) Clean
+ends_clean a [] None few none = text_last a [] None
+ends_clean a (f ∷ fs) None few none = absurd (omega arith)
+ends_clean a fs (Some f) few none = absurd (cc)
+
+pub ends_racy : (a : ℕ) (fs : List Finding) (end : Option Fault) → 0 < length fs → end ≡ None → EndsAs (text a fs end) NotClean
+ends_racy a [] None some none = absurd (omega arith)
+ends_racy a (f ∷ fs) None some none = text_last a (f ∷ fs) None
+ends_racy a fs (Some f) some none = absurd (cc)
+
+pub ends_refused : (a : ℕ) (fs : List Finding) (end : Option Fault) (f : Fault) → end ≡ Some f → EndsAs (text a fs end) Refused
+ends_refused a fs (Some g) f is = (_, text_last a fs (Some g))
+ends_refused a fs None f is = absurd (cc)
 
 -- how the run ended, by the last line, whose first letter tells it
 abbrev letter : List ℕ → ℕ

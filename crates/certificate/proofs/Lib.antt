@@ -4,5 +4,6 @@ pub mod Listings
 pub mod Sentences
 pub mod Lines
 pub mod LastLines
+pub mod Bounds
 pub mod Agreeing
 pub mod Hosting

@@ -3,7 +3,7 @@ use Rattle.certificate.proofs.Hosting.{host_length, host_fault}
 use Rattle.certificate.proofs.host.wickerheron_certify.Goals as goal
 
 pub returns-in-Ok : goal.returns-in-Ok
-returns-in-Ok c = host_length _ _ _ c.args.kind c.in-Ok.length (omega arith) (rw c.in-Ok.is at c.certify_as.ensures)
+returns-in-Ok c = host_length _ c.args.kind _ _ c.in-Ok.told (omega arith) (rw c.in-Ok.is at c.certify_as.ensures)
 
 pub returns-in-Err : goal.returns-in-Err
-returns-in-Err c = host_fault _ _ _ c.args.kind c.in-Err.fault c.number.result c.number.ensures (rw c.in-Err.is at c.certify_as.ensures)
+returns-in-Err c = host_fault _ c.args.kind _ _ c.in-Err.fault c.number.result c.number.ensures (rw c.in-Err.is at c.certify_as.ensures)
