@@ -1,0 +1,2 @@
+pub mod CommandLine
+pub mod Requests
