@@ -2,7 +2,7 @@
 --   command_line p       what clap is told: one FILE, and --exit-code where the program knows it
 --   faults p ws          what clap finds in the words ws: nothing where it takes them, else a mistake, or a wish for help or version
 --   found p ws           what the words name, where they are taken
-use Rattle.std.specs.Prelude.{ℕ, true, cond, List, Some, codes}
+use Rattle.std.specs.Prelude.{true, cond, List, Some, codes}
 use Rattle.clap.specs.Words.{App, Kinds, Row, Rule, Text, fault_of, matches_of, new_app, new_rule, with_rule}
 use Rattle.clap.specs.declared.builder.action.ArgAction.TheVariants.{Set, SetTrue}
 use Rattle.cli.specs.declared.words.Program.{Program}

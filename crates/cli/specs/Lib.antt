@@ -1,2 +1,3 @@
 pub mod CommandLine
 pub mod Requests
+pub mod Plain

@@ -4,7 +4,7 @@
 --   Names rows r         r is to read what was found
 --   Tells k r            r tells a text of clap's of the kind k, for the output that it belongs to
 --   Asks p ws r          r is what the words ws ask of the program p, by clap's rules
-use Rattle.std.specs.Prelude.{◌≡◌, ◌≢◌, ℕ, true, false, cond, Bool, List, [], ◌∷◌, Some, None, Option, option_map, codes}
+use Rattle.std.specs.Prelude.{◌≡◌, ◌≢◌, true, false, cond, Bool, List, [], ◌∷◌, Some, None, Option, option_map, codes}
 use Rattle.std.specs.Str.{bytes_eq}
 use Rattle.clap.specs.Words.{Row, Text, IsAmong, first_of, one_of}
 use Rattle.clap.specs.declared.error.kind.ErrorKind.{ErrorKind}

@@ -1,7 +1,8 @@
 // What the words ask for.
-ghost use Rattle.std.specs.Prelude.{IfOk, map, string_bytes};
+ghost use Rattle.std.specs.Prelude.{◌≡◌, IfOk, map, option_map, string_bytes};
 ghost use Rattle.clap.specs.Words.{found_of, kind_of, rows_of};
-ghost use Rattle.cli.specs.Requests.{Asks, Names, Tells};
+ghost use Rattle.cli.specs.Requests.{Asks, Names, Tells, read_file};
+ghost use Rattle.cli.specs.Plain.{AsksPlainly};
 
 use crate::command::command;
 use clap::error::ErrorKind;
@@ -18,19 +19,32 @@ pub struct Program {
 #[derive(Drop)]
 pub enum Request<'a> {
     // reads the file, or standard input where there is none
-    Read { file: Option<&'a str>, exit_code: bool },
+    Read {
+        file: Option<&'a str>,
+        exit_code: bool,
+    },
     // the help or the version, for standard output
     Say(String),
     // what is wrong with the words, for standard error
     Refuse(String),
 }
 
-// What the words name: `-` is standard input, as no word is.
+// The file that the word names: `-` is standard input, as no word is.
+fn named_file<'a>(word: Option<&'a str>) -> Option<&'a str>
+    ensures { option_map (λ w. w.now) result ≡ read_file (option_map (λ w. w.now) word.entry) }
+{
+    match word {
+        Some(name) if name != "-" => Some(name),
+        _ => None,
+    }
+}
+
+// What the words name.
 fn reading<'a>(matches: &ArgMatches<'a>) -> Request<'a>
     ensures { Names (rows_of (found_of matches.now)) result }
 {
     Request::Read {
-        file: matches.get_str("file").filter(|name| *name != "-"),
+        file: named_file(matches.get_str("file")),
         exit_code: matches.get_flag("exit-code"),
     }
 }
@@ -53,7 +67,8 @@ pub fn parse<'a>(
     program: &Program,
     words: &'a [String],
 ) -> Result<Request<'a>, AllocError>
-    ensures { IfOk result (Asks program.now (map string_bytes words.entry.now)) }
+    ensures answer { IfOk result (Asks program.now (map string_bytes words.entry.now)) }
+    ensures plain { IfOk result (AsksPlainly program.now (map string_bytes words.entry.now)) }
 {
     let command = command(heap, program)?;
     match command.try_get_matches_from(words) {
