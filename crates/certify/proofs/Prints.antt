@@ -21,8 +21,8 @@ pub filled : {E : Type 0} (a b : Option (List ℕ)) (r : Result ℕ E) (buf : Li
 filled a b r buf n is long fills =
     let f = subst (λ q. FillsUpTo a b q buf) is fills in
     record {
-      few = let e = length-take-le n buf f.0 in let l = f.0 in omega arith;
-      firsts = subst (λ k. IfSome a (λ xs. (take n buf ≡ take k xs) × (b ≡ Some (drop k xs)))) long (first_read a b buf n f.0 f.1 f.2);
+      few = let e = length-take-le n buf f.0.0 in let l = f.0.0 in omega arith;
+      firsts = subst (λ k. IfSome a (λ xs. (take n buf ≡ take k xs) × (b ≡ Some (drop k xs)))) long (first_read a b buf n f.0.0 f.0.1 f.1);
     }
 
 pub uses_first : (a b : Option (List ℕ)) (buf : List ℕ) (n : ℕ) → Filled a b buf n → UsesFirst a b

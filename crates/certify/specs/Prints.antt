@@ -1,15 +1,15 @@
--- What is printed of what a source gives. Assumes nothing. Of a source and a sink, `input`, `old` and `new` are the bytes that
--- are known; `input'` are those that the source has left.
---   CertifiesAll input t        t is the certificate of a file, which is all of the source's bytes where they are known, and it was
---                               made over locksets, of no more bytes than show whether the file is too long
---   Wrote bytes out made        such a text of the bytes stands at the front of the buffer `out`, as long and with such an ending
---                               as is told
---   Prints input old new e      the text that stands behind what the sink had is such a certificate, and its ending is e
---   Leaves contents input s s' f   with the failure f: where the source was not read the sink s' is the sink s, and where the text
---                               was not printed, some front of such a certificate stands behind what the sink had
---   UsesFirst input input'      the source has given its first 65,537 bytes, or all where it has no more
---   UsesUp input input' r       with the answer r: those bytes, or some front of them where the source was not read
---   Excused s w f               the failure f is that of a source or a sink that isn't steady: s and w say that they are
+-- What is printed of what a source gives. Assumes nothing. Of a source and a sink, `input`, `old` and `new` are the bytes
+-- that are known, and `input'` are those that the source has left.
+--   CertifiesAll input t     t is the certificate of a file, which is all of the source's bytes where they are known, and
+--                            it was made over locksets, of no more bytes than show that a file is too long
+--   Wrote bytes out made     a certificate of the bytes, made over locksets, stands at the front of the buffer `out`, as
+--                            long and with such an ending as is told
+--   Prints input old new e   behind what the sink had stands the one text that certifies all, and its ending is e
+--   Leaves contents input s s' f   with the failure f: where the source was not read, the sink s' is the sink s; where the
+--                            text was not printed, some front of a text that certifies all stands behind what s had
+--   UsesFirst input input'   the source has given its first 65,537 bytes, or all where it has no more
+--   UsesUp input input' r    with the answer r: those bytes, or some front of them where the source was not read
+--   Excused s w f            the failure f is that of a source or a sink which isn't steady: s and w say that they are
 use Rattle.std.specs.Prelude.{◌≡◌, ℕ, ◌+◌, ◌≤◌, List, take, drop, length, IfSome, Some, Ok, Err, Option, Result}
 use Rattle.std.specs.Io.KnownBytes.{Appends}
 use Rattle.streams.specs.Told.{AppendsFront}
@@ -41,7 +41,8 @@ pub record Prints (input old new : Option (List ℕ)) (e : Ending) : Type 0 wher
 
 abbrev pub Leaves : {W : Type 0} → (W → Option (List ℕ)) → Option (List ℕ) → W → W → Failure → Type 0
 Leaves contents input s s' (Reading e) = s' ≡ s
-Leaves contents input s s' (Printing e) = (t : List ℕ) × CertifiesAll input t × AppendsFront (contents s) (contents s') t
+Leaves contents input s s' (Printing e) =
+    (t : List ℕ) × CertifiesAll input t × AppendsFront (contents s) (contents s') t
 
 abbrev pub UsesFirst : Option (List ℕ) → Option (List ℕ) → Type 0
 UsesFirst input input' = IfSome input (λ xs. input' ≡ Some (drop 65537 xs))

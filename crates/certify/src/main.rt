@@ -3,6 +3,8 @@
 
 mod printing;
 mod status;
+#[cfg(test)]
+mod tests;
 
 use crate::printing::{Failure, certify};
 use crate::status::status;

@@ -1,14 +1,11 @@
 // Printing the certificate of all that a source gives.
-ghost use Rattle.std.specs.Prelude.{◌≤◌, length, take, IfErr, IfOk};
+ghost use Rattle.std.specs.Prelude.{◌≤◌, length, IfErr, IfOk, OnOk};
 ghost use Rattle.certify.specs.Prints.{Prints, Leaves, UsesUp, Excused, Wrote};
 
 use certificate::{Ending, KeeperKind, LONGEST_TEXT, Summary, certify_into};
 use std::io;
 use streams::{Sink, Source, read_up_to, write_whole};
-use trace::LONGEST;
-
-// One byte more than a trace file may have: a longer one is refused for its length, whatever follows.
-const ENOUGH: usize = LONGEST + 1;
+use trace::ENOUGH;
 
 // Why there is no certificate, or not all of one.
 #[derive(Drop)]
@@ -27,15 +24,16 @@ fn make(bytes: &[u8], text: &mut [u8]) -> Summary
     certify_into(bytes, KeeperKind::Locksets, text).unwrap()
 }
 
-// Reads what the source gives, and once the certificate is made, and not before, prints it. Of a source that gives too much
-// no more is read than shows that.
+// Reads what the source gives, and once the certificate is made, and not before, prints it. Of a source that gives too
+// much no more is read than shows that.
 pub(crate) fn certify<S: Source, W: Sink>(input: &mut S, output: &mut W) -> Result<Ending, Failure>
     ensures prints { IfOk result (Prints (S.remaining input.old) (W.contents output.old) (W.contents output.new)) }
     ensures leaves { IfErr result (Leaves W.contents (S.remaining input.old) output.old output.new) }
     ensures uses { UsesUp (S.remaining input.old) (S.remaining input.new) result }
+    ensures flushed { OnOk result (W.flushed output.new) }
     ensures excused { IfErr result (Excused (S.steady input.old) (W.steady output.old)) }
 {
-    let mut bytes = [0; ENOUGH];
+    let mut bytes = [0; ENOUGH as usize];
     let length = read_up_to(input, &mut bytes).map_err(Failure::Reading)?;
     let mut text = [0; LONGEST_TEXT];
     let made = make(&bytes[..length], &mut text);
