@@ -14,6 +14,7 @@ const RACING: [u8; 24] = [
 const TEXT: &[u8] = b"accepted 3 declined 1\nevent 3 place 5 witness 2\nnot clean\n";
 
 // Gives zeros, one at a time, and fails after so many.
+#[derive(Drop)]
 struct Torn {
     left: u8,
 }
@@ -37,6 +38,7 @@ impl Source for Torn {
 }
 
 // Takes one byte at a time, up to so many, and fails then.
+#[derive(Drop)]
 struct Page {
     bytes: [u8; 64],
     used: usize,
