@@ -1,8 +1,7 @@
 -- A file that is too long is refused for its length, so its first bytes have its certificate. Assumes nothing.
-use Rattle.std.proofs.Common.{◌≡◌, ℕ, ◌<◌, List, [], length, take, IfSome, Some, None, Err, Option, sym, refl, ap, subst, ⊎_elim, arith}
+use Rattle.std.proofs.Common.{ℕ, ◌<◌, List, [], length, take, Some, Err, sym, refl, ap, subst, ⊎_elim, arith}
 use Rattle.std.proofs.lemmas.Bool.{cases_lt}
 use Rattle.std.proofs.lemmas.List.{length-take-le, take_all}
-use Rattle.std.specs.Option.{option_map}
 use Rattle.order.proofs.Judgement.{nothing_races}
 use Rattle.trace.specs.declared.fault.TraceFault.TheVariants.{TooLong}
 use Rattle.trace.specs.declared.fault.Refusal.{Refusal}

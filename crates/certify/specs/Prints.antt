@@ -10,7 +10,7 @@
 --   UsesFirst input input'   the source has given its first 65,537 bytes, or all where it has no more
 --   UsesUp input input' r    with the answer r: those bytes, or some front of them where the source was not read
 --   Excused s w f            the failure f is that of a source or a sink which isn't steady: s and w say that they are
-use Rattle.std.specs.Prelude.{◌≡◌, ℕ, ◌+◌, ◌≤◌, List, take, drop, length, IfSome, Some, Ok, Err, Option, Result}
+use Rattle.std.specs.Prelude.{◌≡◌, ℕ, ◌≤◌, List, take, drop, length, IfSome, Some, Ok, Err, Option, Result}
 use Rattle.std.specs.Io.KnownBytes.{Appends}
 use Rattle.streams.specs.Told.{AppendsFront}
 use Rattle.certificate.specs.Certified.{Certifies}

@@ -10,10 +10,9 @@ use crate::printing::{Failure, certify};
 use crate::status::status;
 use certificate::Ending;
 use cli::{Program, Request, parse};
-use std::env;
 use std::fs::File;
-use std::io;
 use std::process::ExitCode;
+use std::{env, io};
 use streams::System;
 
 const PROGRAM: Program = Program {

@@ -96,7 +96,10 @@ fn a_full_page_holds_a_front(rt: HostRuntime) {
         let answer = certify(&mut Memory(&RACING), &mut page);
         let printed = room.min(TEXT.len());
         assert_eq!(rt; page.used, printed, "in room for {room}");
-        assert!(rt; page.bytes[..printed] == TEXT[..printed], "in room for {room}");
+        assert!(rt;
+            page.bytes[..printed] == TEXT[..printed],
+            "in room for {room}"
+        );
         assert_eq!(rt; status(&answer, false), by_printing);
         assert_eq!(rt; status(&answer, true), by_ending);
     }

@@ -1,5 +1,5 @@
 -- There is room for any certificate, so one is made and stands at the buffer's front.
-use Rattle.std.proofs.Common.{◌≡◌, length, take, drop, subst, sym, arith}
+use Rattle.std.proofs.Common.{subst}
 use Rattle.certificate.specs.declared.call.KeeperKind.TheVariants.{Locksets}
 use Rattle.certificate.specs.MadeBy.{MadeBy}
 use Rattle.certificate.specs.Host.{CertifiedInto}
