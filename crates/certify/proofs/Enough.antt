@@ -1,8 +1,7 @@
 -- A file that is too long is refused for its length, so its first bytes have its certificate. Assumes nothing.
-use Rattle.std.proofs.Common.{◌≡◌, ℕ, ◌<◌, List, [], length, take, IfSome, Some, None, Err, Option, sym, refl, ap, subst, ⊎_elim, arith}
+use Rattle.std.proofs.Common.{ℕ, ◌<◌, List, [], length, take, Some, Err, sym, refl, ap, subst, ⊎_elim, arith}
 use Rattle.std.proofs.lemmas.Bool.{cases_lt}
 use Rattle.std.proofs.lemmas.List.{length-take-le, take_all}
-use Rattle.std.specs.Option.{option_map}
 use Rattle.order.proofs.Judgement.{nothing_races}
 use Rattle.trace.specs.declared.fault.TraceFault.TheVariants.{TooLong}
 use Rattle.trace.specs.declared.fault.Refusal.{Refusal}
@@ -14,9 +13,9 @@ use Rattle.certificate.specs.Running.{Outcome, StopsAs, Runs}
 use Rattle.certificate.specs.Texts.{text}
 use Rattle.certificate.specs.Certified.{Certifies}
 use Rattle.certificate.proofs.Agreeing.{agree}
+use Rattle.certificate.proofs.Bounds.{fits}
 use Rattle.certificate.proofs.LastLines.{tells}
 use Rattle.certificate.proofs.Sentences.{sentence}
-use Rattle.certify.specs.Prints.{CertifiesAll}
 
 -- the refusal of such a file, and what its run comes to
 abbrev too_many : Refusal
@@ -50,18 +49,14 @@ long_certified bytes long =
       says = says;
       is = refl;
       tells = tells bytes long_text [] refused_long says refl;
+      fits = fits bytes [] refused_long runs says;
     }
 
 -- the certificate of what is read is that of the whole
-certified_whole : (bytes t : List ℕ) → Certifies (take 65537 bytes) t → Certifies bytes t
+pub certified_whole : (bytes t : List ℕ) → Certifies (take 65537 bytes) t → Certifies bytes t
 certified_whole bytes t c =
     ⊎_elim
     (λ long. let front : 65536 < length (take 65537 bytes) = (let n = length-take-le 65537 bytes (omega arith) in omega arith) in
     subst (Certifies bytes) (agree (take 65537 bytes) long_text t (long_certified (take 65537 bytes) front) c) (long_certified bytes long))
     (λ short. subst (λ xs. Certifies xs t) (take_all 65537 bytes (omega arith)) c)
     (cases_lt 65536 (length bytes))
-
--- what was read is the reader's first 65,537 bytes, where they are known
-pub certifies_all : (input : Option (List ℕ)) (read t : List ℕ) → IfSome (option_map (take 65537) input) (λ bytes. read ≡ bytes) → Certifies read t → CertifiesAll input t
-certifies_all (Some bytes) read t is c = record { file = bytes; whole = refl; certifies = certified_whole bytes t (subst (λ xs. Certifies xs t) is c) }
-certifies_all None read t is c = record { file = read; whole = tt; certifies = c }

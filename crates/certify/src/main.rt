@@ -1,51 +1,85 @@
-// certify: reads a trace file from standard input and prints its certificate.
+// certify: prints the certificate of a trace file.
 #![tactic(auto)]
 
-ghost use Rattle.std.specs.Prelude.{OnOk, IfErr, IfOk, string_bytes};
-ghost use Rattle.certify.specs.Prints.{CertifiesAll, Prints, Leaves};
+mod printing;
+mod status;
+#[cfg(test)]
+mod tests;
 
-use certificate::certificate_of;
-use locksets::Locksets;
-use std::alloc::Global;
-use std::io;
-use std::io::{Read, Write};
-use trace::ENOUGH;
+use crate::printing::{Failure, certify};
+use crate::status::status;
+use certificate::Ending;
+use cli::{Program, Request, parse};
+use std::fs::File;
+use std::process::ExitCode;
+use std::{env, io};
+use streams::System;
 
-// Why there is no certificate, or not all of one.
-#[derive(Drop)]
-enum Failure {
-    // the file was not read, or there was no memory
-    Making(io::Error),
-    Printing(io::Error),
+const PROGRAM: Program = Program {
+    name: "certify",
+    about: "Prints the certificate of a trace file: whether its events race.",
+    has_exit_code: true,
+};
+
+// The status where the words are not taken.
+const REFUSED: u8 = 2;
+
+// The status where there is no memory for the words, or what they ask for can't be said.
+const NOTHING_DONE: u8 = 3;
+
+// Certifies the file, or standard input where none is named.
+fn certify_file(rt: &HostRuntime, file: Option<&str>) -> Result<Ending, Failure> {
+    let mut output = System(rt.stdout());
+    match file {
+        Some(name) => {
+            let input = File::open(rt, name).map_err(Failure::Reading)?;
+            certify(&mut System(input), &mut output)
+        }
+        None => certify(&mut System(rt.stdin()), &mut output),
+    }
 }
 
-impl From<Failure> for io::Error {
-    fn from(failure: Failure) -> io::Error {
-        match failure {
-            Failure::Making(e) | Failure::Printing(e) => e,
+// Says on standard error why there is no certificate, or not all of one.
+fn complain(rt: &HostRuntime, file: Option<&str>, failure: &Failure) -> io::Result<()> {
+    let (stream, reason) = match failure {
+        Failure::Reading(e) => (file.unwrap_or("standard input"), e),
+        Failure::Printing(e) => ("standard output", e),
+    };
+    eprintln!(rt; "certify: {stream}: {reason}")
+}
+
+// Certifies, complains where that failed, and answers the exit status.
+fn run(rt: &HostRuntime, file: Option<&str>, exit_code: bool) -> u8 {
+    let answer = certify_file(rt, file);
+    if let Err(failure) = &answer {
+        // where standard error fails too, the status alone tells it
+        let _ = complain(rt, file, failure);
+    }
+    status(&answer, exit_code)
+}
+
+// Does what the words ask for, and answers the exit status.
+fn obey(rt: &HostRuntime) -> io::Result<u8> {
+    let words: Vec<String> = env::args(rt)?.collect(rt.alloc())?;
+    match parse(rt.alloc(), &PROGRAM, words.as_slice())? {
+        Request::Read { file, exit_code } => Ok(run(rt, file, exit_code)),
+        Request::Say(text) => {
+            rt.print(text)?;
+            Ok(0)
+        }
+        Request::Refuse(text) => {
+            rt.eprint(text)?;
+            Ok(REFUSED)
         }
     }
 }
 
-// The certificate of all that the reader gives. Of a file that is too long one byte too many is read and no more: it is
-// refused for its length, whatever follows.
-fn made<R: Read + Drop>(heap: Global, input: R) -> io::Result<String>
-    ensures { IfOk result (λ t. CertifiesAll (R.remaining input) (string_bytes t)) }
-{
-    let mut bytes = Vec::new(heap);
-    input.take(ENOUGH).read_to_end(&mut bytes)?;
-    Ok(certificate_of(heap, bytes.as_slice(), Locksets::new())?)
-}
-
-// Prints that certificate, once it is made and not before.
-fn certify<R: Read + Drop, W: Write>(heap: Global, input: R, output: &mut W) -> Result<(), Failure>
-    ensures prints { OnOk result (Prints (R.remaining input) (W.contents output.old) (W.contents output.new)) }
-    ensures leaves { IfErr result (Leaves (W.contents output.old) (W.contents output.new)) }
-{
-    let text = made(heap, input).map_err(Failure::Making)?;
-    output.write_all(text.as_bytes()).map_err(Failure::Printing)
-}
-
-fn main(rt: HostRuntime) -> io::Result<()> {
-    Ok(certify(rt.alloc(), rt.stdin(), &mut rt.stdout())?)
+fn main(rt: HostRuntime) -> ExitCode {
+    match obey(&rt) {
+        Ok(status) => ExitCode::from(status),
+        Err(e) => {
+            let _ = eprintln!(rt; "certify: {e}");
+            ExitCode::from(NOTHING_DONE)
+        }
+    }
 }

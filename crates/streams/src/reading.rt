@@ -12,7 +12,8 @@ fn read_at<S: Source>(source: &mut S, buf: &mut [u8], at: usize) -> io::Result<u
     requires { at < length buf.old }
     ensures front { take at buf.new ≡ take at buf.old }
     ensures fits { IfOk result (λ n. at + n ≤ length buf.new) }
-    ensures ok { IfOk result (λ n. Consumes (S.remaining source.old) (S.remaining source.new) (take n (drop at buf.new))) }
+    ensures ok { IfOk result (λ n. Consumes (S.remaining source.old) (S.remaining source.new)
+        (take n (drop at buf.new))) }
     ensures err { OnErr result (Keeps (S.remaining source.old) (S.remaining source.new)) }
     ensures end { IfOk result (λ n. n ≡ 0 → IsAtEnd (S.remaining source.new)) }
     ensures steady { S.steady source.old → IsOk result × S.steady source.new }
@@ -20,8 +21,8 @@ fn read_at<S: Source>(source: &mut S, buf: &mut [u8], at: usize) -> io::Result<u
     source.read(&mut buf[at..])
 }
 
-// Fills the buffer from its front, up to its end or the source's, and tells how many bytes were read. After a failure the
-// buffer may hold some of the bytes that were read before it. A read that a signal interrupts is tried again.
+// Fills the buffer from its front, up to its end or the source's, and tells how many bytes were read. After a failure
+// the buffer may hold some that were read before it. A read that a signal interrupts is tried again.
 pub fn read_up_to<S: Source>(source: &mut S, buf: &mut [u8]) -> io::Result<usize>
     ensures fills { FillsUpTo (S.remaining source.old) (S.remaining source.new) result buf.new }
     ensures steady { S.steady source.old → IsOk result × S.steady source.new }

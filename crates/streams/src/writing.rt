@@ -24,8 +24,8 @@ fn write_out<W: Sink>(sink: &mut W, bytes: &[u8]) -> Result<()>
     Ok(())
 }
 
-// Writes all the bytes and flushes. Where that fails, some front of the bytes is written. A write that a signal interrupts
-// is tried again.
+// Writes all the bytes and flushes. Where that fails, some front of the bytes is written. A write that a signal
+// interrupts is tried again.
 #[tactic(auto, using(crate::proofs::Fronts::flushed))]
 pub fn write_whole<W: Sink>(sink: &mut W, bytes: &[u8]) -> Result<()>
     ensures writes { WritesWhole (W.contents sink.old) (W.contents sink.new) result bytes.now }
