@@ -9,8 +9,8 @@ use Rattle.monitor.specs.Promise.{Sound}
 use Rattle.trace.specs.declared.fault.Refusal.{Refusal}
 use Rattle.trace.specs.Layout.{opening}
 use Rattle.trace.specs.Reading.{origin, entered, inside, outside}
-use Rattle.trace.specs.Whole.{Reads, Contains}
-use Rattle.trace.proofs.Wholes.{contained}
+use Rattle.trace.specs.Whole.{Reads, IsTraceOf}
+use Rattle.trace.proofs.Wholes.{trace_of_reading}
 use Rattle.certificate.specs.declared.fault.Fault.{Fault}
 use Rattle.certificate.specs.declared.finding.Finding.{Finding}
 use Rattle.certificate.specs.Numbers.{number_of}
@@ -155,10 +155,10 @@ entered_none bytes (Some f) = refl
 entered_none bytes None = refl
 
 -- the whole file was read
-file_read : (bytes : List ℕ) (events : List Event) → ReadOut bytes outside events → (counts : List ℕ) × Contains bytes counts events
+file_read : (bytes : List ℕ) (events : List Event) → ReadOut bytes outside events → (counts : List ℕ) × IsTraceOf bytes counts events
 file_read bytes events out =
     let first : inside bytes outside ≡ origin bytes = ap (λ o. entered bytes o outside) out.opens in
-    contained bytes out.sectioned events out.opens (subst (λ p. Reads bytes p out.sectioned None) first out.reads) out.events
+    trace_of_reading bytes out.sectioned events out.opens (subst (λ p. Reads bytes p out.sectioned None) first out.reads) out.events
 
 module _ (bytes t : List ℕ) (events : List Event) (o : Outcome) (says : Sentence bytes outside [] events o) (is : t ≡ text (length o.recorded_as) o.findings o.end) where
   has_last : LastLine t (last_line o.findings o.end)
@@ -172,7 +172,7 @@ module _ (bytes t : List ℕ) (events : List Event) (o : Outcome) (says : Senten
       let end = clean_end o.findings o.end (the_last (codes "clean") line) in
       let file = file_read bytes events (says.whole end.0) in
       let all = says.clean end.0 end.1 ∙ append-nil (reverse events) in
-      record { counts = file.0; contains = file.1; accepted = all; sound = subst Sound all says.sound }
+      record { counts = file.0; trace = file.1; accepted = all; sound = subst Sound all says.sound }
 
   tells_racy : LastLine t (codes "not clean") → RacyFile bytes events o
   tells_racy line =
@@ -180,7 +180,7 @@ module _ (bytes t : List ℕ) (events : List Event) (o : Outcome) (says : Senten
       let file = file_read bytes events (says.whole end.0) in
       record {
         counts = file.0;
-        contains = file.1;
+        trace = file.1;
         some = end.1;
         races = subst (λ n. ListsRaces [] n events o.findings) (entered_none bytes (opening bytes)) says.races;
       }

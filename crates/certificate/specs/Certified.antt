@@ -1,7 +1,7 @@
 -- The certificate of a file. Assumes nothing.
---   CleanFile bytes events o    the file opens and contains just these events; all are accepted, in the file's order, and their
+--   CleanFile bytes events o    the file opens and is the trace of just these events; all are accepted, in the file's order, and their
 --                               record is sound
---   RacyFile bytes events o     the file opens and contains just these events; there are findings, and these are the races
+--   RacyFile bytes events o     the file opens and is the trace of just these events; there are findings, and these are the races
 --                               among them, each once and in the file's order
 --   RefusedFile bytes o l       a fault ended the run; the line l tells its number and site, and it is the first that applies
 --   Ends l                      the line l is `clean` or `not clean`, or begins with `refused `
@@ -11,7 +11,7 @@
 use Rattle.std.specs.Prelude.{◌≡◌, ℕ, ◌<◌, ◌⊎◌, List, [], ◌++◌, reverse, length, Some, codes}
 use Rattle.events.specs.declared.Event.{Event}
 use Rattle.trace.specs.Reading.{outside}
-use Rattle.trace.specs.Whole.{Contains}
+use Rattle.trace.specs.Whole.{IsTraceOf}
 use Rattle.monitor.specs.Promise.{Sound}
 use Rattle.certificate.specs.declared.fault.Fault.{Fault}
 use Rattle.certificate.specs.Running.{Outcome, Runs}
@@ -21,13 +21,13 @@ use Rattle.certificate.specs.LastLine.{LastLine}
 
 pub record CleanFile (bytes : List ℕ) (events : List Event) (o : Outcome) : Type 0 where
   pub counts : List ℕ
-  pub contains : Contains bytes counts events
+  pub trace : IsTraceOf bytes counts events
   pub accepted : o.recorded_as ≡ reverse events
   pub sound : Sound (reverse events)
 
 pub record RacyFile (bytes : List ℕ) (events : List Event) (o : Outcome) : Type 0 where
   pub counts : List ℕ
-  pub contains : Contains bytes counts events
+  pub trace : IsTraceOf bytes counts events
   pub some : 0 < length o.findings
   pub races : ListsRaces [] 0 events o.findings
 

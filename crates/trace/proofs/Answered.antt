@@ -6,7 +6,7 @@ use Rattle.trace.specs.declared.fault.Refusal.{Refusal}
 use Rattle.trace.specs.declared.place.Place.{Place}
 use Rattle.trace.specs.Codec.{event_bytes}
 use Rattle.trace.specs.Layout.{count, opening, section_at}
-use Rattle.trace.specs.Reading.{entered, inside, taken, moved, kept, found, onward, behind, unless_refused, next, after, Stands}
+use Rattle.trace.specs.Reading.{entered, inside, taken, moved, kept, found, onward, behind, unless_refused, next, after, IsBetweenEvents}
 use Rattle.trace.specs.Refusals.{FirstRefusal, EventRefusal}
 use Rattle.trace.specs.Answers.{TakenEvent, Answers}
 use Rattle.trace.proofs.Entries.{body_end_none}
@@ -19,10 +19,10 @@ use Rattle.trace.proofs.Rewrite.{event_again, length_event_again}
 abbrev pub Begun : List ℕ → Place → Type 0
 Begun bytes p = 0 < p.byte → 4 + 8 * count bytes ≤ p.byte
 
-pub begun_stands : (bytes : List ℕ) (p : Place) → (0 < p.byte → Stands bytes p) → Begun bytes p
-begun_stands bytes p stands some =
+pub begun_between : (bytes : List ℕ) (p : Place) → (0 < p.byte → IsBetweenEvents bytes p) → Begun bytes p
+begun_between bytes p between some =
     let first = body_end_none bytes in
-    let low = (stands some).1 in
+    let low = (between some).1 in
     let rise = ends_ordered bytes 0 (p.section - 1) (omega arith) in
     omega arith
 
@@ -32,10 +32,10 @@ inside_behind bytes p none begun =
     cond_both (eqb p.byte 0) (entered bytes (opening bytes) p) p (λ q. 4 + 8 * count bytes ≤ q.byte) (λ _. let in' = ap (λ o. (entered bytes o p).byte) none in omega arith) (λ t. begun (let ne = eqb-false p.byte 0 t in omega arith))
 
 -- and not behind the file's end
-inside_within : (bytes : List ℕ) (p : Place) → opening bytes ≡ None → (0 < p.byte → Stands bytes p) → (inside bytes p).byte ≤ length bytes
-inside_within bytes p none stands =
+inside_within : (bytes : List ℕ) (p : Place) → opening bytes ≡ None → (0 < p.byte → IsBetweenEvents bytes p) → (inside bytes p).byte ≤ length bytes
+inside_within bytes p none between =
     let room = (opened bytes none).room in
-    cond_both (eqb p.byte 0) (entered bytes (opening bytes) p) p (λ q. q.byte ≤ length bytes) (λ _. let in' = ap (λ o. (entered bytes o p).byte) none in omega arith) (λ t. (stands (let ne = eqb-false p.byte 0 t in omega arith)).2)
+    cond_both (eqb p.byte 0) (entered bytes (opening bytes) p) p (λ q. q.byte ≤ length bytes) (λ _. let in' = ap (λ o. (entered bytes o p).byte) none in omega arith) (λ t. (between (let ne = eqb-false p.byte 0 t in omega arith)).2)
 
 pub inside_again : (bytes : List ℕ) (p : Place) → 0 < p.byte → inside bytes p ≡ p
 inside_again bytes p some = cond-false (eqb p.byte 0) _ p (ne_eqb p.byte 0 (λ z. omega arith))
@@ -132,10 +132,10 @@ module _ (bytes : List ℕ) (p : Place) where
       omega arith
 
 -- what an answer of reading on says
-pub next_rule : (bytes : List ℕ) (p q : Place) (r : Result (Option Event) Refusal) → (0 < p.byte → Stands bytes p) → r ≡ next bytes p → q ≡ after bytes p → Answers bytes (inside bytes p) q r
-next_rule bytes p q (Ok (Some e)) stands h at = taken_event bytes p (begun_stands bytes p stands) e (sym h) q at
-next_rule bytes p q (Ok None) stands h at =
+pub next_rule : (bytes : List ℕ) (p q : Place) (r : Result (Option Event) Refusal) → (0 < p.byte → IsBetweenEvents bytes p) → r ≡ next bytes p → q ≡ after bytes p → Answers bytes (inside bytes p) q r
+next_rule bytes p q (Ok (Some e)) between h at = taken_event bytes p (begun_between bytes p between) e (sym h) q at
+next_rule bytes p q (Ok None) between h at =
     let none = next_none bytes p (sym h) in
-    (opens bytes none.0, omega (arith, none.1, inside_within bytes p none.0 stands), at ∙ after_stays bytes p (λ e g. let both = h ∙ g in absurd (let z : ◌≡◌ {A = ℕ} 0 1 = cc in omega arith)))
-next_rule bytes p q (Err f) stands h at =
-    (next_refusal bytes p (begun_stands bytes p stands) f (sym h), at ∙ after_stays bytes p (λ e g. let both = h ∙ g in absurd (let z : ◌≡◌ {A = ℕ} 0 1 = cc in omega arith)))
+    (opens bytes none.0, omega (arith, none.1, inside_within bytes p none.0 between), at ∙ after_stays bytes p (λ e g. let both = h ∙ g in absurd (let z : ◌≡◌ {A = ℕ} 0 1 = cc in omega arith)))
+next_rule bytes p q (Err f) between h at =
+    (next_refusal bytes p (begun_between bytes p between) f (sym h), at ∙ after_stays bytes p (λ e g. let both = h ∙ g in absurd (let z : ◌≡◌ {A = ℕ} 0 1 = cc in omega arith)))

@@ -5,7 +5,7 @@ use Rattle.trace.specs.declared.place.Place.{Place}
 use Rattle.trace.specs.Codec.{size}
 use Rattle.trace.specs.Words.{word}
 use Rattle.trace.specs.Layout.{count, entry_offset, entry_length, body_end, good_entry, bad_entry, entries, opening, ended, section_at}
-use Rattle.trace.specs.Reading.{origin, Stands}
+use Rattle.trace.specs.Reading.{origin, IsBetweenEvents}
 use Rattle.trace.proofs.Entries.{body_end_none, body_end_more}
 
 -- nothing is refused at a test: it came out false, and nothing is refused after it
@@ -138,8 +138,8 @@ pub opened_inside : (bytes : List ℕ) → is_some (opening bytes) ≡ false →
 opened_inside bytes e = opened bytes (none_from (opening bytes) e)
 
 -- a reader may stand before the first event
-pub stands_first : (bytes : List ℕ) → opening bytes ≡ None → Stands bytes (origin bytes)
-stands_first bytes e =
+pub between_first : (bytes : List ℕ) → opening bytes ≡ None → IsBetweenEvents bytes (origin bytes)
+between_first bytes e =
     let file = opened bytes e in
     let start = body_end_none bytes in
     (omega arith, omega arith, file.room, omega arith)
@@ -149,8 +149,8 @@ pub size_some : (k : ℕ) → 3 ≤ size k
 size_some k = cond_both (eqb k 9) 18 3 (λ n. 3 ≤ n) (λ _. omega arith) (λ _. omega arith)
 
 -- a reader may stand behind an event of k's kind that its body holds
-pub stands_behind : {bytes : List ℕ} (file : Opened bytes) (p q : Place) (s k : ℕ) → s ≤ count bytes → body_end bytes (s - 1) ≤ p.byte → p.events ≤ p.byte → q.section ≡ s → q.events ≡ p.events + 1 → q.byte ≡ p.byte + size k → q.byte ≤ body_end bytes s → Stands bytes q
-stands_behind {bytes} file p q s k few low least section events byte high =
+pub between_behind : {bytes : List ℕ} (file : Opened bytes) (p q : Place) (s k : ℕ) → s ≤ count bytes → body_end bytes (s - 1) ≤ p.byte → p.events ≤ p.byte → q.section ≡ s → q.events ≡ p.events + 1 → q.byte ≡ p.byte + size k → q.byte ≤ body_end bytes s → IsBetweenEvents bytes q
+between_behind {bytes} file p q s k few low least section events byte high =
     let some = size_some k in
     let end = within file s few in
     (omega arith, subst (λ n. body_end bytes (n - 1) ≤ q.byte) (sym section) (omega arith), omega arith, omega arith)

@@ -15,7 +15,7 @@ use Rattle.trace.specs.Codec.{operands, event_bytes, size, simple, set_at, actio
 use Rattle.trace.specs.Layout.{count, entry_offset, entry_length, body_end, good_entry, bad_entry, entries, opening}
 use Rattle.trace.specs.Reading.{origin, site, placed, moved}
 use Rattle.trace.specs.File.{body, contents, file}
-use Rattle.trace.specs.Whole.{Reads, in_section, tagged, Contains}
+use Rattle.trace.specs.Whole.{Reads, in_section, tagged, IsTraceOf}
 use Rattle.trace.proofs.Numbers.{number_bytes_of, length_bytes_of}
 use Rattle.trace.proofs.Events.{length_event}
 use Rattle.trace.proofs.Entries.{body_end_none, body_end_more}
@@ -180,7 +180,7 @@ file_parts counts events =
     (refl, first, second, third)
 
 -- what was written reads back: a lawful file of at most 65,536 bytes
-pub reads_back : (counts : List ℕ) (events : List Event) → AllByRecursion (λ e. Words e.action) events → length counts ≤ 256 → sum counts ≡ length events → length (file counts events) ≤ 65536 → Contains (file counts events) counts events
+pub reads_back : (counts : List ℕ) (events : List Event) → AllByRecursion (λ e. Words e.action) events → length counts ≤ 256 → sum counts ≡ length events → length (file counts events) ≤ 65536 → IsTraceOf (file counts events) counts events
 reads_back counts events fits few total short =
     let bs = file counts events in
     let n = length counts in

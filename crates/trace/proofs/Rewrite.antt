@@ -15,7 +15,7 @@ use Rattle.trace.specs.Codec.{operands, event_bytes, size, simple, set_at, actio
 use Rattle.trace.specs.Layout.{count, entry_offset, entry_length, body_end, section_at}
 use Rattle.trace.specs.Reading.{origin, moved}
 use Rattle.trace.specs.File.{body, contents, file}
-use Rattle.trace.specs.Whole.{Reads, in_section, tagged, Contains}
+use Rattle.trace.specs.Whole.{Reads, in_section, tagged, IsTraceOf}
 use Rattle.trace.proofs.Numbers.{bytes_again}
 use Rattle.trace.proofs.Events.{length_event}
 use Rattle.trace.proofs.Entries.{body_end_none, body_end_more}
@@ -205,7 +205,7 @@ module _ (bs : List ℕ) (all : Bytes bs) (opens : Opened bs) where
       ∙ ap (λ m. take m (drop (4 + 8 * s) bs)) (sym whole)
 
 -- a file that reads whole, written again, is the same bytes
-pub rewritten : (bs counts : List ℕ) (events : List Event) → Bytes bs → Contains bs counts events → file counts events ≡ bs
+pub rewritten : (bs counts : List ℕ) (events : List Event) → Bytes bs → IsTraceOf bs counts events → file counts events ≡ bs
 unfolding file
 rewritten bs counts events all holds =
     let opens = opened bs holds.opens in

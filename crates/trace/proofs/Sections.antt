@@ -1,6 +1,7 @@
 -- Reading on, event by event and section by section. Assumes nothing.
-use Rattle.std.proofs.Common.{◌≡◌, ℕ, Bool, suc, ◌+◌, ◌-◌, ◌<◌, ◌≤◌, List, [], ◌∷◌, ◌++◌, length, take, drop, Some, None, Ok, Err, sum, Option, Result, sym, refl, ap, ◌∙◌, subst, inr, arith}
+use Rattle.std.proofs.Common.{◌≡◌, ℕ, Bool, true, false, is_some, suc, ◌+◌, ◌-◌, ◌<◌, ◌≤◌, List, [], ◌∷◌, ◌++◌, length, take, drop, Some, None, Ok, Err, sum, Option, Result, sym, refl, ap, ◌∙◌, subst, inr, arith}
 use Rattle.std.proofs.lemmas.List.{append-nil, append_assoc, length-append, length-drop, length_push, map_push, nil_from_length, take_all, take-append-le, drop-append-le}
+use Rattle.std.proofs.lemmas.Bool.{true≢false}
 use Rattle.std.proofs.lemmas.List.Sums.{sum_by-cons, sum_by_push}
 use Rattle.events.specs.declared.Event.{Event}
 use Rattle.trace.specs.declared.fault.Refusal.{Refusal}
@@ -12,7 +13,8 @@ use Rattle.trace.specs.Layout.{count, body_end, opening, section_at}
 use Rattle.trace.specs.Reading.{origin, taken, moved, found}
 use Rattle.trace.specs.Refusals.{EventRefusal}
 use Rattle.trace.specs.Handing.{HandedAs}
-use Rattle.trace.specs.Whole.{Reads, in_section, tagged, Contains, Onward, Pushed, SectionRead, WholeRead}
+use Rattle.trace.specs.Whole.{Reads, in_section, tagged, IsTraceOf, Onward, Pushed, SectionRead}
+use Rattle.trace.specs.Fronts.{StopsAt, IsFrontOf}
 use Rattle.trace.proofs.Entries.{body_end_none}
 use Rattle.trace.proofs.Opened.{opened}
 
@@ -47,8 +49,8 @@ module _ {bytes : List ℕ} {s : ℕ} {p q : Place} {old all : List Event} (sofa
   }
 
   -- the next event is refused
-  pub sofar_fails : (f : Refusal) → EventRefusal bytes q f → (ts : List (ℕ × Event)) × Reads bytes p ts (Some f)
-  sofar_fails f refusal = (in_section s sofar.events ++ [], sofar.onward [] (Some f) (reads_fail bytes q f refusal))
+  pub sofar_stops : (f : Refusal) → EventRefusal bytes q f → Reads bytes p (in_section s sofar.events) (Some f)
+  sofar_stops f refusal = subst (λ l. Reads bytes p l (Some f)) (append-nil (in_section s sofar.events)) (sofar.onward [] (Some f) (reads_fail bytes q f refusal))
 
 -- an event was handed to a taker that keeps each, or it was refused, or there was no memory
 module _ {T : Type 0} (items : T → List Event) where
@@ -63,10 +65,10 @@ module _ {T : Type 0} (items : T → List Event) where
   pushed_ok (Ok e) at stay move q t t' b (Ok x, pushed, tells, goes) = (e, refl, pushed, goes)
   pushed_ok (Ok e) at stay move q t t' b (Err y, pushed, tells, goes) = absurd (let z : ◌≡◌ {A = ℕ} 0 1 = cc in omega arith)
 
-  pub pushed_err : (o : Result Event Refusal) (at : Site) (stay move q : Place) (t t' : T) (y : ReadError) → (P : ReadError → Type 0) → HandedAs Pushes Converts (found o) at stay move t t' q (Err y) → ((f : Refusal) → o ≡ Err f → P (Refused f)) → P Memory → P y
-  pushed_err (Err f) at stay move q t t' y P h refused memory = subst P (sym h.0) (refused f refl)
-  pushed_err (Ok e) at stay move q t t' y P (Ok x, pushed, tells, goes) refused memory = absurd (let z : ◌≡◌ {A = ℕ} 0 1 = cc in omega arith)
-  pushed_err (Ok e) at stay move q t t' y P (Err x, pushed, tells, goes) refused memory = let same : y ≡ x = cc in subst P (sym (same ∙ pushed.0)) memory
+  pub pushed_refused : (o : Result Event Refusal) (at : Site) (stay move q : Place) (t t' : T) (y : ReadError) (f : Refusal) → y ≡ Refused f → HandedAs Pushes Converts (found o) at stay move t t' q (Err y) → (o ≡ Err f) × (items t' ≡ items t)
+  pushed_refused (Err g) at stay move q t t' y f is h = (let same : y ≡ Refused g = h.0 in cc, ap items h.1)
+  pushed_refused (Ok e) at stay move q t t' y f is (Ok x, pushed, tells, goes) = absurd (let z : ◌≡◌ {A = ℕ} 0 1 = cc in omega arith)
+  pushed_refused (Ok e) at stay move q t t' y f is (Err x, pushed, tells, goes) = absurd (let memory = pushed.0 in let z : ◌≡◌ {A = ℕ} 0 1 = cc in omega arith)
 
 -- one section more
 tagged_push : (s c : ℕ) (counts : List ℕ) (es more : List Event) → sum counts ≡ length es → c ≡ length more → tagged s (counts ++ (c ∷ [])) (es ++ more) ≡ tagged s counts es ++ in_section (s + length counts) more
@@ -102,28 +104,60 @@ through_none bytes q e = record {
   onward = λ ts o r. subst (λ p. Reads bytes p ts o) e r;
 }
 
+-- no event that was kept is lost
+pub section_grows : (bytes : List ℕ) (s : ℕ) (p q : Place) (old all : List Event) (o : Option Refusal) → SectionRead bytes s p q old all (Ok o) → length old ≤ length all
+section_grows bytes s p q old all None (some, place, (es, more, on)) = let long = ap length more ∙ length-append old es in omega arith
+section_grows bytes s p q old all (Some f) (at, (es, more, reads)) = let long = ap length more ∙ length-append old es in omega arith
+
 module _ {bytes : List ℕ} {s : ℕ} {q : Place} {counts : List ℕ} {events : List Event} (through : Through bytes s q counts events) where
-  -- the section s is read
-  pub through_more : (held : List ℕ) (q' : Place) (counts' : List ℕ) (events' : List Event) (x : Unit {0}) (c : ℕ) → held ≡ bytes → SectionRead held s q q' events events' (Ok x) → c ≡ length events' - length events → counts' ≡ counts ++ (c ∷ []) → Through bytes (s + 1) q' counts' events'
-  through_more held q' counts' events' x c same (some, place, (es, more, on)) n push =
+  -- so many events of section s are behind the others
+  record Counted (counts' : List ℕ) (events' es : List Event) : Type 0 where
+    pub many : length counts' ≡ s
+    pub total : sum counts' ≡ length events'
+    pub tags : tagged 1 counts' events' ≡ tagged 1 counts events ++ in_section s es
+
+  counted : (counts' : List ℕ) (events' es : List Event) (c : ℕ) → events' ≡ events ++ es → c ≡ length events' - length events → counts' ≡ counts ++ (c ∷ []) → Counted counts' events' es
+  counted counts' events' es c more n push =
       let long = ap length more ∙ length-append events es in
       let size : c ≡ length es = omega arith in
-      let before : s ≡ s + 1 - 1 = omega arith in
-      let tags = ap (λ l. tagged 1 l events') push ∙ ap (tagged 1 (counts ++ (c ∷ []))) more ∙ tagged_push 1 c counts events es through.total size ∙ ap (λ k. tagged 1 counts events ++ in_section k es) through.many in
-      let sums = ap sum push ∙ sum_by_push (λ y. y) counts c in
-      let on' = subst (λ b. Onward b s q q' es) same on in
       record {
-        place = place ∙ ap (λ b. body_end b s) same ∙ ap (body_end bytes) before;
         many = let m = ap length push ∙ length_push counts c in omega (arith, through.many);
-        total = omega (arith, through.total);
-        onward = λ ts o r. subst (λ l. Reads bytes (origin bytes) l o) (sym (ap (λ l. l ++ ts) tags ∙ append_assoc (tagged 1 counts events) (in_section s es) ts)) (through.onward (in_section s es ++ ts) o (on' ts o r));
+        total = let sums = ap sum push ∙ sum_by_push (λ y. y) counts c in omega (arith, through.total);
+        tags = ap (λ l. tagged 1 l events') push ∙ ap (tagged 1 (counts ++ (c ∷ []))) more ∙ tagged_push 1 c counts events es through.total size ∙ ap (λ k. tagged 1 counts events ++ in_section k es) through.many;
       }
 
-  pub through_fails : (f : Refusal) → ((ts : List (ℕ × Event)) × Reads bytes q ts (Some f)) → (ts : List (ℕ × Event)) × Reads bytes (origin bytes) ts (Some f)
-  through_fails f r = (tagged 1 counts events ++ r.0, through.onward r.0 (Some f) r.1)
+  -- the section s is read
+  pub through_more : (held : List ℕ) (q' : Place) (counts' : List ℕ) (events' : List Event) (o : Option Refusal) (c : ℕ) → held ≡ bytes → is_some o ≡ false → SectionRead held s q q' events events' (Ok o) → c ≡ length events' - length events → counts' ≡ counts ++ (c ∷ []) → (0 < q'.byte) × Through bytes (s + 1) q' counts' events'
+  through_more held q' counts' events' (Some f) c same none section n push = absurd (true≢false none)
+  through_more held q' counts' events' None c same none (some, place, (es, more, on)) n push =
+      let all = counted counts' events' es c more n push in
+      let before : s ≡ s + 1 - 1 = omega arith in
+      let on' = subst (λ b. Onward b s q q' es) same on in
+      (some, record {
+        place = place ∙ ap (λ b. body_end b s) same ∙ ap (body_end bytes) before;
+        many = omega (arith, all.many);
+        total = all.total;
+        onward = λ ts o r. subst (λ l. Reads bytes (origin bytes) l o) (sym (ap (λ l. l ++ ts) all.tags ∙ append_assoc (tagged 1 counts events) (in_section s es) ts)) (through.onward (in_section s es ++ ts) o (on' ts o r));
+      })
+
+  -- an event of the section s is refused
+  through_stops : (held : List ℕ) (q' : Place) (counts' : List ℕ) (events' : List Event) (f : Refusal) (c : ℕ) → opening bytes ≡ None → held ≡ bytes → SectionRead held s q q' events events' (Ok (Some f)) → c ≡ length events' - length events → counts' ≡ counts ++ (c ∷ []) → StopsAt bytes counts' events' f
+  through_stops held q' counts' events' f c opens same (at, (es, more, reads)) n push =
+      let all = counted counts' events' es c more n push in
+      record {
+        opens = opens;
+        sections = all.many ∙ sym at;
+        total = all.total;
+        reads = subst (λ l. Reads bytes (origin bytes) l (Some f)) (sym all.tags) (through.onward (in_section s es) (Some f) (subst (λ b. Reads b q (in_section s es) (Some f)) same reads));
+      }
+
+  -- where the section s ends with a refusal, so does the front
+  pub through_end : (held : List ℕ) (q' : Place) (counts' : List ℕ) (events' : List Event) (o : Option Refusal) (c : ℕ) → opening bytes ≡ None → held ≡ bytes → is_some o ≡ true → SectionRead held s q q' events events' (Ok o) → c ≡ length events' - length events → counts' ≡ counts ++ (c ∷ []) → IsFrontOf bytes counts' events' o
+  through_end held q' counts' events' None c opens same some section n push = absurd (true≢false (sym some))
+  through_end held q' counts' events' (Some f) c opens same some section n push = inr (through_stops held q' counts' events' f c opens same section n push)
 
   -- the last section is read
-  pub through_all : opening bytes ≡ None → s ≡ count bytes + 1 → Contains bytes counts events
+  pub through_all : opening bytes ≡ None → s ≡ count bytes + 1 → IsTraceOf bytes counts events
   through_all e last =
       let all : s - 1 ≡ count bytes = omega arith in
       record {
@@ -132,8 +166,3 @@ module _ {bytes : List ℕ} {s : ℕ} {q : Place} {counts : List ℕ} {events : 
         total = through.total;
         reads = subst (λ l. Reads bytes (origin bytes) l None) (append-nil (tagged 1 counts events)) (through.onward [] None (reads_end bytes q (let w = (opened bytes e).whole in let s = ap (body_end bytes) all in omega (arith, through.place))));
       }
-
--- what stops a section stops the whole
-pub whole_fails : (bytes : List ℕ) (s : ℕ) (q q' : Place) (counts : List ℕ) (events old all : List Event) → Through bytes s q counts events → (y : ReadError) → SectionRead bytes s q q' old all (Err y) → WholeRead bytes (Err y)
-whole_fails bytes s q q' counts events old all through (Refused f) r = inr (through_fails through f r)
-whole_fails bytes s q q' counts events old all through Memory r = tt

@@ -1,4 +1,4 @@
--- Events that were read up to the file's end, each with its section, are what the file contains. Assumes nothing.
+-- Events that were read up to the file's end, each with its section, make the file the trace of them. Assumes nothing.
 use Rattle.std.proofs.Common.{◌≡◌, ℕ, zero, suc, ◌+◌, ◌-◌, ◌*◌, ◌<◌, ◌≤◌, List, [], ◌∷◌, map, length, None, sum, sym, refl, ap, ◌∙◌, subst, ⊎_elim, arith}
 use Rattle.std.proofs.lemmas.List.{length-map}
 use Rattle.std.proofs.lemmas.List.Sums.{sum_by-cons}
@@ -8,7 +8,7 @@ use Rattle.trace.specs.declared.place.Place.{Place}
 use Rattle.trace.specs.Layout.{count, body_end, opening}
 use Rattle.trace.specs.Reading.{origin, moved}
 use Rattle.trace.specs.Refusals.{InBody}
-use Rattle.trace.specs.Whole.{Reads, tagged, Contains}
+use Rattle.trace.specs.Whole.{Reads, tagged, IsTraceOf}
 use Rattle.trace.proofs.Entries.{body_end_none}
 use Rattle.trace.proofs.Opened.{Opened, opened, ends_ordered}
 use Rattle.trace.proofs.Refusals.{in_body}
@@ -83,12 +83,12 @@ reads_rise bytes file (t ∷ ts) p s low from (more, at, takes, rest) =
     let last = body.last in
     (section_least bytes s t.0 p.byte from body, omega arith, reads_rise bytes file ts (moved bytes p) t.0 (omega arith) (omega arith) rest)
 
-pub contained : (bytes : List ℕ) (ts : List (ℕ × Event)) (es : List Event) → opening bytes ≡ None → Reads bytes (origin bytes) ts None → events_of ts ≡ es → (counts : List ℕ) × Contains bytes counts es
-contained bytes ts es opens reads same =
+pub trace_of_reading : (bytes : List ℕ) (ts : List (ℕ × Event)) (es : List Event) → opening bytes ≡ None → Reads bytes (origin bytes) ts None → events_of ts ≡ es → (counts : List ℕ) × IsTraceOf bytes counts es
+trace_of_reading bytes ts es opens reads same =
     let start = body_end_none bytes in
     let rises = reads_rise bytes (opened bytes opens) ts (origin bytes) 1 (omega arith) (omega arith) reads in
     let r = sectioned (count bytes) 1 ts rises in
-    subst (λ l. (counts : List ℕ) × Contains bytes counts l) same (
+    subst (λ l. (counts : List ℕ) × IsTraceOf bytes counts l) same (
       r.counts,
       record {
         opens = opens;

@@ -11,3 +11,4 @@ pub mod Handing
 pub mod File
 pub mod Sheets
 pub mod Whole
+pub mod Fronts

@@ -5,6 +5,7 @@
 --   moved bytes p      where the reader stands once that event is taken
 --   next bytes p       what reading on answers: an event, a refusal, or that there is no more
 --   after bytes p      where the reader stands after that answer: only a taken event moves it
+--   IsBetweenEvents bytes p   the place lies between two events, at or behind the end of every section before its own
 use Rattle.std.specs.Prelude.{ℕ, ◌+◌, ◌-◌, ◌*◌, ◌≤◌, cond, List, length, Some, None, Ok, Err, Option, Result, ◌==◌, nat_lt, slice_index}
 use Rattle.events.specs.declared.Event.{Event}
 use Rattle.trace.specs.declared.fault.TraceFault.{TraceFault}
@@ -75,6 +76,5 @@ next bytes p = unless_refused (opening bytes) Err (onward bytes (inside bytes p)
 abbrev pub after : List ℕ → Place → Place
 after bytes p = unless_refused (opening bytes) (λ _. p) (behind bytes (inside bytes p))
 
--- the place lies between two events, at or behind the end of every section before its own
-abbrev pub Stands : List ℕ → Place → Type 0
-Stands bytes p = (p.section ≤ count bytes) × (body_end bytes (p.section - 1) ≤ p.byte) × (p.byte ≤ length bytes) × (p.events ≤ p.byte)
+abbrev pub IsBetweenEvents : List ℕ → Place → Type 0
+IsBetweenEvents bytes p = (p.section ≤ count bytes) × (body_end bytes (p.section - 1) ≤ p.byte) × (p.byte ≤ length bytes) × (p.events ≤ p.byte)

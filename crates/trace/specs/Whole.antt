@@ -1,9 +1,10 @@
 -- A whole file read: its events with their sections. Assumes nothing.
 --   Reads bytes p ts o       from the place p on the events ts are read, each with its section, up to the end or to the refusal in o
 --   tagged s counts events   the events with their sections, from section s on, so many events each
---   Contains bytes counts events   the file reads whole, as these events in these sections
+--   IsTraceOf bytes counts events   the file opens and holds just these events, in sections of so many each
 --   Refuses bytes f          reading the file comes to the refusal f
 use Rattle.std.specs.Prelude.{◌≡◌, ℕ, suc, ◌<◌, ◌≤◌, ◌⊎◌, List, [], ◌∷◌, ◌++◌, map, length, take, drop, Some, None, Ok, Err, vec_items, sum, Option, Result}
+use Rattle.std.specs.declared.alloc.AllocError.{AllocError}
 use Rattle.events.specs.declared.Event.{Event}
 use Rattle.trace.specs.declared.fault.Refusal.{Refusal}
 use Rattle.trace.specs.declared.place.Place.{Place}
@@ -29,7 +30,7 @@ unfoldable pub tagged : ℕ → List ℕ → List Event → List (ℕ × Event)
 tagged s [] events = []
 tagged s (c ∷ counts) events = in_section s (take c events) ++ tagged (suc s) counts (drop c events)
 
-pub record Contains (bytes counts : List ℕ) (events : List Event) : Type 0 where
+pub record IsTraceOf (bytes counts : List ℕ) (events : List Event) : Type 0 where
   pub opens : opening bytes ≡ None
   pub sections : length counts ≡ count bytes
   pub total : sum counts ≡ length events
@@ -48,14 +49,15 @@ abbrev pub Onward : List ℕ → ℕ → Place → Place → List Event → Type
 Onward bytes s p q events =
     (ts : List (ℕ × Event)) (o : Option Refusal) → Reads bytes q ts o → Reads bytes p (in_section s events ++ ts) o
 
--- the events that are left of section s from p on are behind the old ones, and the reader stands at q; or reading from p comes to a refusal
-abbrev pub SectionRead : List ℕ → ℕ → Place → Place → List Event → List Event → Result (Unit {0}) ReadError → Type 0
-SectionRead bytes s p q old all (Ok x) = (0 < q.byte) × (q.byte ≡ body_end bytes s) × ((events : List Event) × (all ≡ old ++ events) × Onward bytes s p q events)
-SectionRead bytes s p q old all (Err (Refused f)) = (ts : List (ℕ × Event)) × Reads bytes p ts (Some f)
-SectionRead bytes s p q old all (Err Memory) = Unit {0}
+-- the events that are left of section s from p on are behind the old ones, and the reader stands at q; or one of the section is refused,
+-- and those before it are behind the old ones
+abbrev pub SectionRead : List ℕ → ℕ → Place → Place → List Event → List Event → Result (Option Refusal) AllocError → Type 0
+SectionRead bytes s p q old all (Ok None) = (0 < q.byte) × (q.byte ≡ body_end bytes s) × ((events : List Event) × (all ≡ old ++ events) × Onward bytes s p q events)
+SectionRead bytes s p q old all (Ok (Some f)) = (f.at.section ≡ s) × ((events : List Event) × (all ≡ old ++ events) × Reads bytes p (in_section s events) (Some f))
+SectionRead bytes s p q old all (Err x) = Unit {0}
 
 -- what reading a whole file answers; want of memory says nothing of the file
 abbrev pub WholeRead : List ℕ → Result Trace ReadError → Type 0
-WholeRead bytes (Ok t) = Contains bytes (vec_items t.counts) (vec_items t.events) × (file (vec_items t.counts) (vec_items t.events) ≡ bytes)
+WholeRead bytes (Ok t) = IsTraceOf bytes (vec_items t.counts) (vec_items t.events) × (file (vec_items t.counts) (vec_items t.events) ≡ bytes)
 WholeRead bytes (Err (Refused f)) = Refuses bytes f
 WholeRead bytes (Err Memory) = Unit {0}

@@ -20,5 +20,5 @@ pub use handing::Taker;
 pub use layout::{ENOUGH, LONGEST};
 pub use place::{Guard, Place};
 pub use reader::Reader;
-pub use whole::{ReadError, Trace, read_whole};
+pub use whole::{Front, ReadError, Trace, read_front, read_whole};
 pub use writer::write;

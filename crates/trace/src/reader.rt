@@ -1,7 +1,7 @@
 // A reader: the caller's bytes, which it only borrows, and where it stands in them.
 ghost use Rattle.std.specs.Prelude.{◌≡◌, ◌<◌, false, is_some};
 ghost use Rattle.trace.specs.Layout.{opening};
-ghost use Rattle.trace.specs.Reading.{Stands};
+ghost use Rattle.trace.specs.Reading.{IsBetweenEvents};
 
 use crate::place::Place;
 
@@ -12,5 +12,5 @@ pub struct Reader<'a> {
     pub(crate) bytes: &'a [u8],
     pub(crate) at: Place,
     ghost opened: { (0 < at.byte → is_some (opening bytes.now) ≡ false) },
-    ghost stands: { (0 < at.byte → Stands bytes.now at) },
+    ghost between: { (0 < at.byte → IsBetweenEvents bytes.now at) },
 }

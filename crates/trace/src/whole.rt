@@ -1,7 +1,8 @@
 // A whole file read into its events and sections.
-ghost use Rattle.std.specs.Prelude.{◌≡◌, ℕ, ◌+◌, ◌-◌, ◌<◌, ◌≤◌, List, ◌++◌, Some};
+ghost use Rattle.std.specs.Prelude.{◌≡◌, ℕ, ◌+◌, ◌-◌, ◌<◌, ◌≤◌, List, ◌++◌, Some, IfOk, vec_items};
 ghost use Rattle.trace.specs.Layout.{count, body_end};
 ghost use Rattle.trace.specs.Texts.{error_text};
+ghost use Rattle.trace.specs.Fronts.{IsFrontOf};
 ghost use Rattle.trace.specs.Whole.{Pushed, SectionRead, WholeRead};
 ghost use Rattle.trace.specs.declared.whole.ReadError.TheVariants.{Refused, Memory};
 
@@ -19,6 +20,13 @@ use std::fmt;
 pub struct Trace {
     pub events: Vec<Event>,
     pub counts: Vec<usize>,
+}
+
+// What a file holds up to its end, or up to its first refusal.
+#[derive(Drop)]
+pub struct Front {
+    pub trace: Trace,
+    pub end: Option<Refusal>,
 }
 
 // Why a file is not read whole.
@@ -76,8 +84,8 @@ impl Taker<ReadError> for Vec<Event> {
 }
 
 impl Reader<'_> {
-    // Takes the events that are left of the section in which the reader stands.
-    fn take_section(&mut self, section: usize, events: &mut Vec<Event>) -> Result<(), ReadError>
+    // Takes the events that are left of the section in which the reader stands, up to one that is refused.
+    fn take_section(&mut self, section: usize, events: &mut Vec<Event>) -> Result<Option<Refusal>, AllocError>
         requires byte_nonzero { (0 < self.old.at.byte) × ((0 < section) × (section ≤ count self.old.bytes.now)) }
         requires section_bound { (body_end self.old.bytes.now (section - 1) ≤ self.old.at.byte) × (self.old.at.byte ≤ body_end self.old.bytes.now section) }
         ensures bytes { self.new.bytes.now ≡ self.old.bytes.now }
@@ -85,24 +93,53 @@ impl Reader<'_> {
     {
         let end = self.section_end(section);
         while self.at.byte < end {
-            self.hand_event(events)?;
+            match self.hand_event(events) {
+                Ok(_) => {}
+                Err(ReadError::Refused(refusal)) => return Ok(Some(refusal)),
+                Err(ReadError::Memory) => return Err(AllocError),
+            }
         }
-        Ok(())
+        Ok(None)
     }
+}
+
+// Reads the file up to its end, or up to its first refusal. Behind a refused event nothing is read; the last count is of its
+// section.
+pub fn read_front(heap: Global, bytes: &[u8]) -> Result<Front, AllocError>
+    ensures { IfOk result (λ front. IsFrontOf bytes.now (vec_items front.trace.counts) (vec_items front.trace.events) front.end) }
+{
+    let mut trace = Trace {
+        events: Vec::new(heap),
+        counts: Vec::new(heap),
+    };
+    let mut reader = Reader::new(bytes);
+    let sections = match reader.contents() {
+        Ok(sections) => sections,
+        Err(refusal) => {
+            return Ok(Front {
+                trace,
+                end: Some(refusal),
+            });
+        }
+    };
+    for section in 1..=sections {
+        let before = trace.events.len();
+        let end = reader.take_section(section, &mut trace.events)?;
+        trace.counts.push(trace.events.len() - before)?;
+        if end.is_some() {
+            return Ok(Front { trace, end });
+        }
+    }
+    Ok(Front { trace, end: None })
 }
 
 // Reads the whole file: its events, and how many each section has.
 pub fn read_whole(heap: Global, bytes: &[u8]) -> Result<Trace, ReadError>
     ensures { WholeRead bytes.now result }
 {
-    let mut reader = Reader::new(bytes);
-    let sections = reader.contents()?;
-    let mut events = Vec::new(heap);
-    let mut counts = Vec::new(heap);
-    for section in 1..=sections {
-        let before = events.len();
-        reader.take_section(section, &mut events)?;
-        counts.push(events.len() - before)?;
+    let Front { trace, end } = read_front(heap, bytes)?;
+    match end {
+        None => Ok(trace),
+        Some(refusal) => Err(ReadError::Refused(refusal)),
     }
-    Ok(Trace { events, counts })
 }

@@ -1,7 +1,7 @@
 // Writing a trace: the checks, and then the file into the caller's buffer.
 ghost use Rattle.std.specs.Prelude.{◌≡◌, ◌≤◌, true, ◌++◌, length, drop, is_ok, if◌then◌else◌, sum, ◌==◌};
 ghost use Rattle.trace.specs.File.{file, written};
-ghost use Rattle.trace.specs.Whole.{Contains};
+ghost use Rattle.trace.specs.Whole.{IsTraceOf};
 
 use crate::encode::body_size;
 use crate::fault::WriteFault;
@@ -22,7 +22,7 @@ fn counts_sum_to(counts: &[usize], events: usize) -> bool
 pub fn write(events: &[Event], counts: &[usize], out: &mut [u8]) -> Result<usize, WriteFault>
     ensures answer { result ≡ written counts.now events.now (length out.old) }
     ensures buffer { out.new ≡ (if is_ok result then file counts.now events.now ++ drop (length (file counts.now events.now)) out.old else out.old) }
-    ensures back { is_ok result ≡ true → Contains (file counts.now events.now) counts.now events.now }
+    ensures back { is_ok result ≡ true → IsTraceOf (file counts.now events.now) counts.now events.now }
 {
     if counts.len() > MOST_SECTIONS || !counts_sum_to(counts, events.len()) {
         return Err(WriteFault::Counts);

@@ -37,7 +37,7 @@ loop-smaller g c =
     let byte = ap (λ p. p.byte) step.3 in
     let same = ap length (c.hand.ensures.bytes ∙ inv.0) in
     let some : 0 < q'.byte = omega arith in
-    let within = (c.hand.new.self.stands some).2 in
+    let within = (c.hand.new.self.between some).2 in
     omega arith
 
 pub loop-preserved : goal.loop-preserved

@@ -1,5 +1,5 @@
 use Rattle.std.proofs.Common.{sym}
-use Rattle.trace.proofs.Answered.{begun_stands}
+use Rattle.trace.proofs.Answered.{begun_between}
 use Rattle.certificate.specs.Running.{RunOn}
 use Rattle.certificate.proofs.Sentences.{sentence}
 use Rattle.certificate.proofs.running.run_out.Goals as goal
@@ -12,6 +12,6 @@ returns g c =
     record {
       run = λ rec stands.
           let came = rw (c.requires, sym c.err.ensures.value) at (told.run rec stands) in
-          record { came = came; says = sentence from.bytes.now from.at rec came.events _ (begun_stands from.bytes.now from.at from.stands) stands.lawful stands.free came.runs };
+          record { came = came; says = sentence from.bytes.now from.at rec came.events _ (begun_between from.bytes.now from.at from.between) stands.lawful stands.free came.runs };
       bytes = told.bytes;
     }

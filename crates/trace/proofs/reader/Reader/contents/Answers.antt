@@ -1,8 +1,8 @@
 use Rattle.std.proofs.Common.{◌≡◌, is_some, None, arith, sym, ap, subst}
 use Rattle.std.proofs.lemmas.Result.{err_from_is_err_and}
 use Rattle.trace.specs.Layout.{opening}
-use Rattle.trace.specs.Reading.{Stands}
-use Rattle.trace.proofs.Opened.{stands_first, none_from}
+use Rattle.trace.specs.Reading.{IsBetweenEvents}
+use Rattle.trace.proofs.Opened.{between_first, none_from}
 use Rattle.trace.proofs.Refusals.{first_refusal, opens}
 use Rattle.trace.proofs.reader.Reader.contents.Goals as goal
 use Rattle.trace.proofs.reader.Reader.contents.Goals.{then-self-eq0+in_ok-self, else-self-eq0}
@@ -11,7 +11,7 @@ pub invariant_of-self : goal.invariant_of-self
 invariant_of-self c =
     let first = c.in_ok-self.ensures in
     let bs = c.args.self.now.bytes.now in
-    record { opened = λ _. ap is_some first.0; stands = λ _. subst (Stands bs) (sym first.1) (stands_first bs first.0) }
+    record { opened = λ _. ap is_some first.0; between = λ _. subst (IsBetweenEvents bs) (sym first.1) (between_first bs first.0) }
 
 pub returns-in_err-self-clause-rule : goal.returns-in_err-self-clause-rule
 returns-in_err-self-clause-rule c =

@@ -1,7 +1,7 @@
 use Rattle.std.proofs.Common.{is_ok, Ok, Err, sym, refl, ap, ◌∙◌, subst, arith}
 use Rattle.std.proofs.lemmas.Result.{err_from_is_err_and}
-use Rattle.trace.specs.Reading.{Stands}
-use Rattle.trace.proofs.Opened.{opened_inside, within, stands_behind}
+use Rattle.trace.specs.Reading.{IsBetweenEvents}
+use Rattle.trace.proofs.Opened.{opened_inside, within, between_behind}
 use Rattle.trace.proofs.HandedOn.{mapped_ok, moved_so, handed_so}
 use Rattle.trace.proofs.reader.Reader.hand_event.Goals as goal
 
@@ -9,9 +9,9 @@ pub read_event-requires : goal.read_event-requires
 read_event-requires g c =
     let file = opened_inside c.args.self.now.bytes.now (c.args.self.now.opened c.requires.0) in
     let end = within file c.section-section.result c.section-section.ensures.within.1 in
-    let stands = c.args.self.now.stands c.requires.0 in
+    let between = c.args.self.now.between c.requires.0 in
     let around = c.section-section.ensures.around in
-    (omega arith, (omega arith, stands.3))
+    (omega arith, (omega arith, between.3))
 
 pub returns-in_err-take : goal.returns-in_err-take
 returns-in_err-take g c =
@@ -32,8 +32,8 @@ invariant_of-self-2 g c =
     let place = c.section-section.ensures in
     let ok = ap is_ok (mapped_ok _ _ c.in_ok-event.event c.map_err.ensures.cases c.in_ok-event.was) in
     let read = c.read_event.ensures in
-    let stands = stands_behind file self.at c.read_event.new.at c.section-section.result _ place.within.1 place.around.0 (self.stands c.requires.0).3 read.section (read.events ok) (read.byte ok) (omega (arith, read.inside ok)) in
-    record { opened = λ _. self.opened c.requires.0; stands = λ _. subst (Stands self.bytes.now) (sym c.drop-guard-2.ensures) stands }
+    let between = between_behind file self.at c.read_event.new.at c.section-section.result _ place.within.1 place.around.0 (self.between c.requires.0).3 read.section (read.events ok) (read.byte ok) (omega (arith, read.inside ok)) in
+    record { opened = λ _. self.opened c.requires.0; between = λ _. subst (IsBetweenEvents self.bytes.now) (sym c.drop-guard-2.ensures) between }
 
 pub returns : goal.returns
 returns g c =

@@ -13,7 +13,7 @@ returns-in_err-hand c =
     let place = next_place self.bytes.now self.at c.hand.new.self.at c.hand.new.taker _ handed in
     record {
       answer = answer;
-      rule = next_rule self.bytes.now self.at c.hand.new.self.at c.from_residual.result self.stands answer place;
+      rule = next_rule self.bytes.now self.at c.hand.new.self.at c.from_residual.result self.between answer place;
       place = place;
       bytes = c.hand.ensures.bytes;
     }
@@ -24,4 +24,4 @@ returns-clause-rule c =
     let q = c.hand.new.self.at in
     let t = c.hand.new.taker in
     let handed = c.in_ok-hand.ensures.handed in
-    next_rule self.bytes.now self.at q (Ok t) self.stands (sym (next_ok self.bytes.now self.at q t _ handed)) (next_place self.bytes.now self.at q t _ handed)
+    next_rule self.bytes.now self.at q (Ok t) self.between (sym (next_ok self.bytes.now self.at q t _ handed)) (next_place self.bytes.now self.at q t _ handed)
