@@ -12,6 +12,7 @@ pub mod Bodies
 pub mod Contents
 pub mod Writing
 pub mod Sections
+pub mod Fronts
 pub mod Rewrite
 pub mod ReadBack
 pub mod HandedOn

@@ -8,7 +8,7 @@ use Rattle.trace.specs.declared.fault.Refusal.{Refusal}
 use Rattle.trace.specs.declared.fault.Site.{Site}
 use Rattle.trace.specs.declared.place.Place.{Place}
 use Rattle.trace.specs.declared.whole.ReadError.{ReadError}
-use Rattle.trace.specs.declared.whole.ReadError.TheVariants.{Refused, Memory}
+use Rattle.trace.specs.declared.whole.ReadError.TheVariants.{Refused}
 use Rattle.trace.specs.Layout.{count, body_end, opening, section_at}
 use Rattle.trace.specs.Reading.{origin, taken, moved, found}
 use Rattle.trace.specs.Refusals.{EventRefusal}

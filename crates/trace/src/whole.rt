@@ -137,9 +137,9 @@ pub fn read_front(heap: Global, bytes: &[u8]) -> Result<Front, AllocError>
 pub fn read_whole(heap: Global, bytes: &[u8]) -> Result<Trace, ReadError>
     ensures { WholeRead bytes.now result }
 {
-    let Front { trace, end } = read_front(heap, bytes)?;
-    match end {
-        None => Ok(trace),
+    let front = read_front(heap, bytes)?;
+    match front.end {
+        None => Ok(front.trace),
         Some(refusal) => Err(ReadError::Refused(refusal)),
     }
 }

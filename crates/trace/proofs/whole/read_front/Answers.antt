@@ -1,10 +1,10 @@
-use Rattle.std.proofs.Common.{◌≡◌, ◌-◌, ◌<◌, is_ok, Ok, None, vec_items, sym, ap, ◌∙◌, subst, inl, arith}
+use Rattle.std.proofs.Common.{◌≡◌, ◌-◌, is_ok, None, vec_items, sym, ap, ◌∙◌, subst, inl, arith}
 use Rattle.std.proofs.ResultArms.{chosen}
 use Rattle.trace.specs.Layout.{count, body_end, opening}
 use Rattle.trace.specs.Reading.{origin, sections_or, inside}
 use Rattle.trace.specs.Refusals.{FirstRefusal}
-use Rattle.trace.specs.Whole.{IsTraceOf, SectionRead}
-use Rattle.trace.proofs.Opened.{ends_ordered, none_from}
+use Rattle.trace.specs.Whole.{IsTraceOf}
+use Rattle.trace.proofs.Opened.{ends_ordered}
 use Rattle.trace.proofs.Steps.{entered_ok}
 use Rattle.trace.proofs.Sections.{Through, through_none, through_more, through_end, through_all, section_grows}
 use Rattle.trace.proofs.whole.read_front.Goals as goal

@@ -1,9 +1,7 @@
-use Rattle.std.proofs.Common.{◌+◌, ◌-◌, ◌*◌, ◌<◌, ◌≤◌, length, get_or, Err, vec_items, sym, ap, ◌∙◌, subst, arith}
-use Rattle.std.proofs.lemmas.Result.{err_from_is_err_and}
+use Rattle.std.proofs.Common.{◌+◌, ◌-◌, ◌*◌, ◌<◌, ◌≤◌, length, get_or, vec_items, sym, ap, ◌∙◌, subst, arith}
 use Rattle.trace.specs.Codec.{size}
 use Rattle.trace.specs.Layout.{count, body_end, opening}
 use Rattle.trace.specs.Reading.{site, taken, moved}
-use Rattle.trace.specs.Whole.{SectionRead}
 use Rattle.trace.proofs.Entries.{body_end_none}
 use Rattle.trace.proofs.Opened.{opened_inside, within, ends_ordered, none_from, section_is}
 use Rattle.trace.proofs.Steps.{taken_ok}
