@@ -2,7 +2,9 @@
 --   event_line n b e          event number n of the file, which begins at byte b
 --   event_lines n b events    a line for each of these events, which stand one behind another
 --   sections_text s n b counts events   for each section, from section s on, its heading and a line for each of its events
---   ending bytes counts events end      the refusal and its sentence; or how much was read, and that it gives the same bytes again
+--   refusal_line f            the refusal and its sentence
+--   summary events sections bytes       how many there are, and that writing them gives the same bytes again
+--   ending bytes counts events end      how the listing ends: with the refusal, or with the summary
 --   listing bytes counts events end     the whole text
 --   IsListing bytes t         t is the text of what the file holds up to its end, which is its encoding, or up to its refusal
 use Rattle.std.specs.Prelude.{◌≡◌, ℕ, ◌+◌, ◌*◌, List, [], ◌∷◌, ◌++◌, length, take, drop, Some, None, Option, IfNone, codes, decimal}
@@ -15,19 +17,16 @@ use Rattle.trace.specs.Fronts.{IsFrontOf}
 use Rattle.trace.specs.Layout.{count}
 use Rattle.trace.specs.Texts.{fault_words, refusal_text}
 
--- a line feed ends each line
-abbrev pub line : List ℕ → List ℕ
-line text = text ++ codes "\n"
-
+-- each line ends in a line feed
 abbrev pub event_line : ℕ → ℕ → Event → List ℕ
-event_line n b e = line (codes "  event " ++ (decimal n ++ (codes ", byte " ++ (decimal b ++ (codes ": " ++ event_text e)))))
+event_line n b e = codes "  event " ++ (decimal n ++ (codes ", byte " ++ (decimal b ++ (codes ": " ++ (event_text e ++ (10 ∷ []))))))
 
 unfoldable pub event_lines : ℕ → ℕ → List Event → List ℕ
 event_lines n b [] = []
 event_lines n b (e ∷ events) = event_line n b e ++ event_lines (n + 1) (b + length (event_bytes e)) events
 
 abbrev pub heading : ℕ → List ℕ
-heading s = line (codes "section " ++ decimal s)
+heading s = codes "section " ++ (decimal s ++ (10 ∷ []))
 
 unfoldable pub sections_text : ℕ → ℕ → ℕ → List ℕ → List Event → List ℕ
 sections_text s n b [] events = []
@@ -35,11 +34,17 @@ sections_text s n b (c ∷ counts) events =
     let here = take c events in
     heading s ++ (event_lines n b here ++ sections_text (s + 1) (n + length here) (b + length (body here)) counts (drop c events))
 
+abbrev pub refusal_line : Refusal → List ℕ
+refusal_line f = refusal_text f ++ (codes ": " ++ (fault_words f.fault ++ (10 ∷ [])))
+
+abbrev pub summary : ℕ → ℕ → ℕ → List ℕ
+summary events sections bytes =
+    (codes "events " ++ (decimal events ++ (codes " sections " ++ (decimal sections ++ (10 ∷ [])))))
+    ++ (codes "written back: the same " ++ (decimal bytes ++ (codes " bytes" ++ (10 ∷ []))))
+
 abbrev pub ending : List ℕ → List ℕ → List Event → Option Refusal → List ℕ
-ending bytes counts events (Some f) = line (refusal_text f ++ (codes ": " ++ fault_words f.fault))
-ending bytes counts events None =
-    line (codes "events " ++ (decimal (length events) ++ (codes " sections " ++ decimal (length counts))))
-    ++ line (codes "written back: the same " ++ (decimal (length bytes) ++ codes " bytes"))
+ending bytes counts events (Some f) = refusal_line f
+ending bytes counts events None = summary (length events) (length counts) (length bytes)
 
 -- event bodies begin behind the header's 4 bytes and 8 for each section
 abbrev pub listing : List ℕ → List ℕ → List Event → Option Refusal → List ℕ

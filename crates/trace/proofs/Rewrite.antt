@@ -110,7 +110,7 @@ tags_after m s (c ∷ counts) es h =
     each m s [] h = tt
     each m s (e ∷ es) h = (h, each m s es h)
 
-untagged : (s : ℕ) (counts : List ℕ) (es : List Event) → sum counts ≡ length es → map (λ t. t.1) (tagged s counts es) ≡ es
+pub untagged : (s : ℕ) (counts : List ℕ) (es : List Event) → sum counts ≡ length es → map (λ t. t.1) (tagged s counts es) ≡ es
 unfolding tagged
 untagged s [] es e = sym (nil_from_length es (sym e))
 untagged s (c ∷ counts) es e =
