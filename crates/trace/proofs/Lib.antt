@@ -16,3 +16,5 @@ pub mod Fronts
 pub mod Rewrite
 pub mod ReadBack
 pub mod HandedOn
+pub mod ReadOn
+pub mod OneFront

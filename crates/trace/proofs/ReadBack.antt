@@ -1,9 +1,9 @@
 -- A file that was written reads whole, as the events and sections that were written. Assumes nothing.
-use Rattle.std.proofs.Common.{◌≡◌, ℕ, suc, ◌+◌, ◌-◌, ◌*◌, ◌^◌, ◌<◌, ◌≤◌, cond, not, eqb, ltb, leb, List, [], ◌∷◌, ◌++◌, length, get_or, take, drop, None, Ok, sum, sym, refl, ap, ◌∙◌, subst, add-one, arith}
+use Rattle.std.proofs.Common.{◌≡◌, ℕ, suc, ◌+◌, ◌-◌, ◌*◌, ◌^◌, ◌<◌, ◌≤◌, true, cond, not, eqb, ltb, leb, List, [], ◌∷◌, ◌++◌, length, get_or, take, drop, None, Ok, sum, sym, refl, ap, ◌∙◌, subst, add-one, arith}
 use Rattle.std.proofs.ByRecursion.{All-take, All-drop}
 use Rattle.std.proofs.lemmas.List.{append_assoc, length-append, length-drop, take_at, drop_at, drop-drop, get_or-drop, nil_from_length}
 use Rattle.std.proofs.lemmas.List.Sums.{sum_by-cons}
-use Rattle.std.proofs.lemmas.Bool.{and_from, eq-eqb, le-leb, lt-leb, le-ltb, cond-true, cond-false, not_from_true}
+use Rattle.std.proofs.lemmas.Bool.{and_from, and_parts, eqb-true, leb-true, eq-eqb, le-leb, lt-leb, le-ltb, cond-true, cond-false, not_from_true}
 use Rattle.std.specs.List.{AllByRecursion}
 use Rattle.events.specs.declared.Event.{Event}
 use Rattle.events.specs.declared.Action.{Action}
@@ -14,7 +14,7 @@ use Rattle.events.specs.Kinds.{kind}
 use Rattle.trace.specs.Codec.{operands, event_bytes, size, simple, set_at, action_at, decoded, event_at, Words}
 use Rattle.trace.specs.Layout.{count, entry_offset, entry_length, body_end, good_entry, bad_entry, entries, opening}
 use Rattle.trace.specs.Reading.{origin, site, placed, moved}
-use Rattle.trace.specs.File.{body, contents, file}
+use Rattle.trace.specs.File.{body, contents, file, lawful}
 use Rattle.trace.specs.Whole.{Reads, in_section, tagged, IsTraceOf}
 use Rattle.trace.proofs.Numbers.{number_bytes_of, length_bytes_of}
 use Rattle.trace.proofs.Events.{length_event}
@@ -209,3 +209,9 @@ reads_back counts events fits few total short =
       total = total;
       reads = sections_back bs (opened bs e) counts events (origin bs) 0 fits total (omega arith) t.ends (sym (body_end_none bs)) bodies;
     }
+
+-- the same by the writer's test
+pub lawful_reads_back : (counts : List ℕ) (events : List Event) → AllByRecursion (λ e. Words e.action) events → lawful counts events ≡ true → length (file counts events) ≤ 65536 → IsTraceOf (file counts events) counts events
+lawful_reads_back counts events fits fine short =
+    let parts = and_parts _ _ fine in
+    reads_back counts events fits (leb-true _ _ parts.0) (eqb-true _ _ parts.1) short

@@ -100,7 +100,7 @@ part_rest : (bs : List ℕ) (i k j : ℕ) → j ≡ i + k → take k (drop i bs)
 part_rest bs i k j e = ap (λ m. take k (drop i bs) ++ drop m bs) e ∙ ap (λ l. take k (drop i bs) ++ l) (sym (drop-drop k i bs)) ∙ take-append-drop k (drop i bs)
 
 -- sections are numbered upwards
-tags_after : (m s : ℕ) (counts : List ℕ) (es : List Event) → m < s → AllByRecursion (λ t. m < t.0) (tagged s counts es)
+pub tags_after : (m s : ℕ) (counts : List ℕ) (es : List Event) → m < s → AllByRecursion (λ t. m < t.0) (tagged s counts es)
 unfolding tagged
 tags_after m s [] es h = tt
 tags_after m s (c ∷ counts) es h =

@@ -132,13 +132,15 @@ module _ {bytes : List ℕ} {s : ℕ} {q : Place} {counts : List ℕ} {events : 
   through_more held q' counts' events' None c same none (some, place, (es, more, on)) n push =
       let all = counted counts' events' es c more n push in
       let before : s ≡ s + 1 - 1 = omega arith in
-      let on' = subst (λ b. Onward b s q q' es) same on in
-      (some, record {
-        place = place ∙ ap (λ b. body_end b s) same ∙ ap (body_end bytes) before;
-        many = omega (arith, all.many);
-        total = all.total;
-        onward = λ ts o r. subst (λ l. Reads bytes (origin bytes) l o) (sym (ap (λ l. l ++ ts) all.tags ∙ append_assoc (tagged 1 counts events) (in_section s es) ts)) (through.onward (in_section s es ++ ts) o (on' ts o r));
-      })
+      let on' = subst (λ b. Onward b s q q' es) same on in (
+        some,
+        record {
+          place = place ∙ ap (λ b. body_end b s) same ∙ ap (body_end bytes) before;
+          many = omega (arith, all.many);
+          total = all.total;
+          onward = λ ts o r. subst (λ l. Reads bytes (origin bytes) l o) (sym (ap (λ l. l ++ ts) all.tags ∙ append_assoc (tagged 1 counts events) (in_section s es) ts)) (through.onward (in_section s es ++ ts) o (on' ts o r));
+        },
+      )
 
   -- an event of the section s is refused
   through_stops : (held : List ℕ) (q' : Place) (counts' : List ℕ) (events' : List Event) (f : Refusal) (c : ℕ) → opening bytes ≡ None → held ≡ bytes → SectionRead held s q q' events events' (Ok (Some f)) → c ≡ length events' - length events → counts' ≡ counts ++ (c ∷ []) → StopsAt bytes counts' events' f

@@ -12,3 +12,4 @@ pub mod File
 pub mod Sheets
 pub mod Whole
 pub mod Fronts
+pub mod Theorems

@@ -11,6 +11,7 @@ mod place;
 mod reader;
 mod reading;
 mod sheet;
+mod theorems;
 mod whole;
 mod words;
 mod writer;
@@ -20,5 +21,8 @@ pub use handing::Taker;
 pub use layout::{ENOUGH, LONGEST};
 pub use place::{Guard, Place};
 pub use reader::Reader;
+pub use theorems::{
+    reading_is_one, reading_on_gives_the_front, rewriting_gives_the_same, writing_reads_back,
+};
 pub use whole::{Front, ReadError, Trace, read_front, read_whole};
 pub use writer::write;

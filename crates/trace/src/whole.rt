@@ -85,7 +85,11 @@ impl Taker<ReadError> for Vec<Event> {
 
 impl Reader<'_> {
     // Takes the events that are left of the section in which the reader stands, up to one that is refused.
-    fn take_section(&mut self, section: usize, events: &mut Vec<Event>) -> Result<Option<Refusal>, AllocError>
+    fn take_section(
+        &mut self,
+        section: usize,
+        events: &mut Vec<Event>,
+    ) -> Result<Option<Refusal>, AllocError>
         requires byte_nonzero { (0 < self.old.at.byte) × ((0 < section) × (section ≤ count self.old.bytes.now)) }
         requires section_bound { (body_end self.old.bytes.now (section - 1) ≤ self.old.at.byte) × (self.old.at.byte ≤ body_end self.old.bytes.now section) }
         ensures bytes { self.new.bytes.now ≡ self.old.bytes.now }
