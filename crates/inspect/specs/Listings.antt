@@ -3,8 +3,8 @@
 --   event_lines n b events    a line for each of these events, which stand one behind another
 --   sections_text s n b counts events   for each section, from section s on, its heading and a line for each of its events
 --   refusal_line f            the refusal and its sentence
---   summary events sections bytes       how many there are, and that writing them gives the same bytes again
---   ending bytes counts events end      how the listing ends: with the refusal, or with the summary
+--   events_line n s, written_line l     how many events and sections there are, and that writing them gives the same bytes
+--   ending bytes counts events end      how the listing ends: with the refusal, or with these two
 --   listing bytes counts events end     the whole text
 --   IsListing bytes t         t is the text of what the file holds up to its end, which is its encoding, or up to its refusal
 use Rattle.std.specs.Prelude.{◌≡◌, ℕ, ◌+◌, ◌*◌, List, [], ◌∷◌, ◌++◌, length, take, drop, Some, None, Option, IfNone, codes, decimal}
@@ -37,14 +37,15 @@ sections_text s n b (c ∷ counts) events =
 abbrev pub refusal_line : Refusal → List ℕ
 refusal_line f = refusal_text f ++ (codes ": " ++ (fault_words f.fault ++ (10 ∷ [])))
 
-abbrev pub summary : ℕ → ℕ → ℕ → List ℕ
-summary events sections bytes =
-    (codes "events " ++ (decimal events ++ (codes " sections " ++ (decimal sections ++ (10 ∷ [])))))
-    ++ (codes "written back: the same " ++ (decimal bytes ++ (codes " bytes" ++ (10 ∷ []))))
+abbrev pub events_line : ℕ → ℕ → List ℕ
+events_line events sections = codes "events " ++ (decimal events ++ (codes " sections " ++ (decimal sections ++ (10 ∷ []))))
+
+abbrev pub written_line : ℕ → List ℕ
+written_line bytes = codes "written back: the same " ++ (decimal bytes ++ (codes " bytes" ++ (10 ∷ [])))
 
 abbrev pub ending : List ℕ → List ℕ → List Event → Option Refusal → List ℕ
 ending bytes counts events (Some f) = refusal_line f
-ending bytes counts events None = summary (length events) (length counts) (length bytes)
+ending bytes counts events None = events_line (length events) (length counts) ++ written_line (length bytes)
 
 -- event bodies begin behind the header's 4 bytes and 8 for each section
 abbrev pub listing : List ℕ → List ℕ → List Event → Option Refusal → List ℕ

@@ -8,7 +8,7 @@ ghost use Rattle.inspect.specs.Places.{Fits, behind};
 
 use events::{Action, Event};
 use std::alloc::{AllocError, Global};
-use trace::{Reader, Refusal, read_front};
+use trace::{Front, Reader, read_front};
 
 // Where an event stands in the file: its number, from 1, and its first byte.
 #[derive(Clone, Copy)]
@@ -67,4 +67,42 @@ fn push_sections(
         left = rest;
     }
     Ok(())
+}
+
+// How the listing ends: with the refusal, or with what was read. That writing it gives the same bytes again holds of every
+// file that reads whole, so it is said and not tried.
+fn push_ending(text: &mut String, bytes: &[u8], front: &Front) -> Result<(), AllocError>
+    ensures { OnOk result (string_bytes text.new ≡ string_bytes text.old ++ ending bytes.now front.now.trace.counts.items front.now.trace.events.items front.now.end) }
+{
+    match front.end {
+        Some(refusal) => {
+            let meaning = refusal.fault;
+            writeln!(text, "{refusal}: {meaning}")
+        }
+        None => {
+            let events = front.trace.events.as_slice().len();
+            let sections = front.trace.counts.as_slice().len();
+            let length = bytes.len();
+            writeln!(text, "events {events} sections {sections}")?;
+            writeln!(text, "written back: the same {length} bytes")
+        }
+    }
+}
+
+// The listing of the file.
+pub fn listing(heap: Global, bytes: &[u8]) -> Result<String, AllocError>
+    ensures { IfOk result (λ t. IsListing bytes.now (string_bytes t)) }
+{
+    let front = read_front(heap, bytes)?;
+    // nothing was read of a file that doesn't open
+    let sections = Reader::new(bytes).contents().unwrap_or(0);
+    let mut text = String::new(heap);
+    push_sections(
+        &mut text,
+        4 + 8 * sections,
+        front.trace.counts.as_slice(),
+        front.trace.events.as_slice(),
+    )?;
+    push_ending(&mut text, bytes, &front)?;
+    Ok(text)
 }

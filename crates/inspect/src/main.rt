@@ -2,5 +2,55 @@
 #![tactic(auto)]
 
 mod listing;
+mod work;
 
-fn main(_rt: HostRuntime) {}
+use cli::{Program, Request, parse};
+use std::env;
+use std::fs::File;
+use std::io;
+use std::process::ExitCode;
+use streams::System;
+use work::{Failure, inspect};
+
+static PROGRAM: Program = Program {
+    name: "inspect",
+    about: "Lists a trace file: its sections and events, up to its end or its first refusal.",
+    has_exit_code: false,
+};
+
+// Lists the file, or standard input where there is none.
+fn list(rt: &HostRuntime, file: Option<&str>) -> Result<(), Failure> {
+    let mut output = System(rt.stdout());
+    match file {
+        None => inspect(rt.alloc(), &mut System(rt.stdin()), &mut output),
+        Some(name) => {
+            let opened = File::open(rt, name).map_err(Failure::Reading)?;
+            inspect(rt.alloc(), &mut System(opened), &mut output)
+        }
+    }
+}
+
+// Lists the file, and tells what went wrong.
+fn list_and_tell(rt: &HostRuntime, file: Option<&str>) -> io::Result<ExitCode> {
+    if let Err(failure) = list(rt, file) {
+        let name = file.unwrap_or("standard input");
+        eprintln!(rt; "inspect: {name}: {failure}")?;
+        return Ok(ExitCode::FAILURE);
+    }
+    Ok(ExitCode::SUCCESS)
+}
+
+fn main(rt: HostRuntime) -> io::Result<ExitCode> {
+    let words: Vec<String> = env::args(&rt)?.collect(rt.alloc())?;
+    match parse(rt.alloc(), &PROGRAM, words.as_slice())? {
+        Request::Read { file, .. } => list_and_tell(&rt, file),
+        Request::Say(text) => {
+            print!(rt; "{text}")?;
+            Ok(ExitCode::SUCCESS)
+        }
+        Request::Refuse(text) => {
+            eprint!(rt; "{text}")?;
+            Ok(ExitCode::from(2))
+        }
+    }
+}
