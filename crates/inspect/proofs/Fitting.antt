@@ -4,7 +4,7 @@ use Rattle.std.proofs.lemmas.List.{length-append}
 use Rattle.events.specs.declared.Event.{Event}
 use Rattle.trace.specs.declared.fault.Refusal.{Refusal}
 use Rattle.trace.specs.declared.place.Place.{Place}
-use Rattle.trace.specs.Codec.{event_bytes, size}
+use Rattle.trace.specs.Codec.{event_bytes}
 use Rattle.trace.specs.File.{body}
 use Rattle.trace.specs.Layout.{body_end, count, opening, section_at}
 use Rattle.trace.specs.Reading.{moved, origin}
@@ -15,7 +15,7 @@ use Rattle.trace.proofs.Opened.{Opened, opened, within}
 use Rattle.trace.proofs.Refusals.{in_body}
 use Rattle.trace.proofs.Rewrite.{length_event_again, untagged}
 use Rattle.trace.proofs.Steps.{taken_ok}
-use Rattle.trace.specs.Fronts.{IsFrontOf, StopsAt}
+use Rattle.trace.specs.Fronts.{IsFrontOf}
 use Rattle.trace.specs.Reading.{sections_or}
 use Rattle.trace.specs.Refusals.{FirstRefusal}
 use Rattle.trace.proofs.Refusals.{refusal_opens}

@@ -1,6 +1,6 @@
 -- What reading and printing come to. Assumes nothing.
 use Rattle.std.proofs.Common.{◌≡◌, ℕ, ◌+◌, ◌*◌, ◌<◌, ◌≤◌, List, [], ◌++◌, ⊎_elim, inl, refl, length, take, drop, IfSome, Some, None, Option, Ok, Err, Result, sym, subst, ap, ◌∙◌, arith}
-use Rattle.std.proofs.lemmas.List.{length-take-le, take-append-le, take_all, length-append}
+use Rattle.std.proofs.lemmas.List.{length-take-le, take_all}
 use Rattle.std.proofs.Math.Seq.{take-append_seam}
 use Rattle.streams.specs.Told.{FillsUpTo}
 use Rattle.streams.proofs.Fronts.{first_read}

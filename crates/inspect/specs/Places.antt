@@ -1,7 +1,7 @@
 -- Where events stand in a file. Assumes nothing.
 --   behind at events     the spot behind the events, of which the first stands at the spot `at`
 --   Fits at events       these events end within a file's bytes
-use Rattle.std.specs.Prelude.{ℕ, ◌+◌, ◌≤◌, List, length}
+use Rattle.std.specs.Prelude.{◌+◌, ◌≤◌, List, length}
 use Rattle.events.specs.declared.Event.{Event}
 use Rattle.trace.specs.File.{body}
 use Rattle.inspect.specs.declared.listing.Spot.{Spot}

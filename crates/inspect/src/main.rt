@@ -5,10 +5,9 @@ mod listing;
 mod work;
 
 use cli::{Program, Request, parse};
-use std::env;
 use std::fs::File;
-use std::io;
 use std::process::ExitCode;
+use std::{env, io};
 use streams::System;
 use work::{Failure, inspect};
 

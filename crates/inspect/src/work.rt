@@ -5,8 +5,7 @@ ghost use Rattle.inspect.specs.declared.work.Failure.TheVariants.{Memory};
 
 use crate::listing::listing;
 use std::alloc::{AllocError, Global};
-use std::fmt;
-use std::io;
+use std::{fmt, io};
 use streams::{Sink, Source, read_up_to, write_whole};
 use trace::ENOUGH;
 

@@ -1,4 +1,4 @@
-use Rattle.std.proofs.Common.{◌≡◌, ◌+◌, ◌++◌, length, drop, get_or, sym, ap, ap₂, ◌∙◌, arith, rules, string_bytes}
+use Rattle.std.proofs.Common.{◌≡◌, ◌+◌, ◌++◌, length, drop, get_or, sym, ap₂, ◌∙◌, arith, rules, string_bytes}
 use Rattle.trace.specs.Codec.{event_bytes}
 use Rattle.trace.proofs.Bodies.{blank}
 use Rattle.inspect.specs.declared.listing.Spot.{Spot}

@@ -1,7 +1,6 @@
-use Rattle.std.proofs.Common.{◌≡◌, ◌+◌, ◌++◌, List, ℕ, length, drop, take, get_or, sym, subst, ap, ap₂, ◌∙◌, arith, rules, string_bytes}
+use Rattle.std.proofs.Common.{◌≡◌, ◌+◌, ◌++◌, length, drop, take, get_or, sym, subst, ap, ap₂, ◌∙◌, arith, string_bytes}
 use Rattle.std.proofs.lemmas.List.Sums.{sum_by-drop_more}
-use Rattle.std.proofs.lemmas.List.{length-append, length-drop, length-take-le, take-append-drop}
-use Rattle.events.specs.declared.Event.{Event}
+use Rattle.std.proofs.lemmas.List.{length-append, length-drop, take-append-drop}
 use Rattle.trace.specs.File.{body}
 use Rattle.trace.proofs.Bodies.{body_split, length_body_take}
 use Rattle.inspect.specs.declared.listing.Spot.{Spot}

@@ -1,4 +1,4 @@
-use Rattle.std.proofs.Common.{◌≡◌, ℕ, List, ◌∙◌, sym, subst, string_bytes, IfSome, take}
+use Rattle.std.proofs.Common.{subst, string_bytes}
 use Rattle.std.specs.Io.KnownBytes.{Appends}
 use Rattle.inspect.specs.Listings.{IsListing}
 use Rattle.streams.specs.Told.{AppendsFront}

@@ -1,4 +1,4 @@
-use Rattle.std.proofs.Common.{◌≡◌, ◌≤◌, ◌∙◌, length, sym, arith}
+use Rattle.std.proofs.Common.{◌≡◌, ◌∙◌, length, arith}
 use Rattle.std.specs.declared.io.Error.{Error}
 use Rattle.inspect.proofs.Printed.{gives, uses}
 use Rattle.inspect.proofs.work.read.Goals as goal
