@@ -1,13 +1,16 @@
 -- What is listed of a file, by what it holds. Assumes nothing.
 --   event_line n b e          event number n of the file, which begins at byte b
 --   event_lines n b events    a line for each of these events, which stand one behind another
---   sections_text s n b counts events   for each section, from section s on, its heading and a line for each of its events
+--   sections_text s n b counts events   for each section, from section s on, its heading and its events' lines
 --   refusal_line f            the refusal and its sentence
---   events_line n s, written_line l     how many events and sections there are, and that writing them gives the same bytes
---   ending bytes counts events end      how the listing ends: with the refusal, or with these two
+--   events_line n s           how many events and sections there are
+--   written_line l            that writing them gives the same bytes again, and how many
+--   ending bytes counts events end      how the listing ends: with the refusal, or with these two lines
 --   listing bytes counts events end     the whole text
---   IsListing bytes t         t is the text of what the file holds up to its end, which is its encoding, or up to its refusal
-use Rattle.std.specs.Prelude.{◌≡◌, ℕ, ◌+◌, ◌*◌, List, [], ◌∷◌, ◌++◌, length, take, drop, Some, None, Option, IfNone, codes, decimal}
+--   IsListing bytes t         t is the text of what the file holds, up to its refusal, or up to its end; the file
+--                             is then the encoding of just that
+use Rattle.std.specs.Prelude.{◌≡◌, ℕ, ◌+◌, ◌*◌, List, [], ◌∷◌, ◌++◌}
+use Rattle.std.specs.Prelude.{length, take, drop, Some, None, Option, IfNone, codes, decimal}
 use Rattle.events.specs.declared.Event.{Event}
 use Rattle.events.specs.Texts.{event_text}
 use Rattle.trace.specs.declared.fault.Refusal.{Refusal}
@@ -19,7 +22,8 @@ use Rattle.trace.specs.Texts.{fault_words, refusal_text}
 
 -- each line ends in a line feed
 abbrev pub event_line : ℕ → ℕ → Event → List ℕ
-event_line n b e = codes "  event " ++ (decimal n ++ (codes ", byte " ++ (decimal b ++ (codes ": " ++ (event_text e ++ (10 ∷ []))))))
+event_line n b e =
+    codes "  event " ++ (decimal n ++ (codes ", byte " ++ (decimal b ++ (codes ": " ++ (event_text e ++ (10 ∷ []))))))
 
 unfoldable pub event_lines : ℕ → ℕ → List Event → List ℕ
 event_lines n b [] = []
@@ -32,13 +36,16 @@ unfoldable pub sections_text : ℕ → ℕ → ℕ → List ℕ → List Event �
 sections_text s n b [] events = []
 sections_text s n b (c ∷ counts) events =
     let here = take c events in
-    heading s ++ (event_lines n b here ++ sections_text (s + 1) (n + length here) (b + length (body here)) counts (drop c events))
+    heading s
+    ++ (event_lines n b here
+    ++ sections_text (s + 1) (n + length here) (b + length (body here)) counts (drop c events))
 
 abbrev pub refusal_line : Refusal → List ℕ
 refusal_line f = refusal_text f ++ (codes ": " ++ (fault_words f.fault ++ (10 ∷ [])))
 
 abbrev pub events_line : ℕ → ℕ → List ℕ
-events_line events sections = codes "events " ++ (decimal events ++ (codes " sections " ++ (decimal sections ++ (10 ∷ []))))
+events_line events sections =
+    codes "events " ++ (decimal events ++ (codes " sections " ++ (decimal sections ++ (10 ∷ []))))
 
 abbrev pub written_line : ℕ → List ℕ
 written_line bytes = codes "written back: the same " ++ (decimal bytes ++ (codes " bytes" ++ (10 ∷ [])))
@@ -49,7 +56,8 @@ ending bytes counts events None = events_line (length events) (length counts) ++
 
 -- event bodies begin behind the header's 4 bytes and 8 for each section
 abbrev pub listing : List ℕ → List ℕ → List Event → Option Refusal → List ℕ
-listing bytes counts events end = sections_text 1 1 (4 + 8 * count bytes) counts events ++ ending bytes counts events end
+listing bytes counts events end =
+    sections_text 1 1 (4 + 8 * count bytes) counts events ++ ending bytes counts events end
 
 pub record IsListing (bytes t : List ℕ) : Type 0 where
   pub counts : List ℕ

@@ -1,10 +1,11 @@
--- What is printed of a file, over any source and any sink. Assumes nothing. Of a source or a sink, `old` and `new` are the bytes
--- that are known before and after.
+-- What is printed of a file, over any source and any sink. Assumes nothing. Of a source or a sink, `old` and `new` are
+-- the bytes that are known before and after.
 --   Uses old new           the source gave up a front of its bytes, of at most 65,537
 --   Unprinted f            the failure f came before anything was to be printed
 --   ListsAll input t       t is the listing of a file, which is all of the source's bytes where they are known
 --   Prints input old new   such a listing stands behind what the sink had, and nothing else
---   Leaves input old new f   after the failure f the sink grew by a front of such a listing if that was being printed, else by nothing
+--   PrintsFront input old new   a front of such a listing stands behind it, and nothing else
+--   Leaves input old new f   after the failure f: such a front, where printing failed, else just what the sink had
 use Rattle.std.specs.Prelude.{◌≡◌, ℕ, ◌≤◌, List, IfSome, Option, length}
 use Rattle.std.specs.Io.KnownBytes.{Appends, Consumes}
 use Rattle.streams.specs.Told.{AppendsFront}
