@@ -1,6 +1,7 @@
 -- A program's command line by the words of clap's contracts. Assumes nothing.
 --   command_line p       what clap is told: one FILE, and --exit-code where the program knows it
---   faults p ws          what clap finds in the words ws: nothing where it takes them, else a mistake, or a wish for help or version
+--   faults p ws          what clap finds in the words ws: nothing where it takes them, else a mistake, or a wish
+--                        for help or the version
 --   found p ws           what the words name, where they are taken
 use Rattle.std.specs.Prelude.{true, cond, List, Some, codes}
 use Rattle.clap.specs.Words.{App, Kinds, Row, Rule, Text, fault_of, matches_of, new_app, new_rule, with_rule}

@@ -2,7 +2,7 @@
 --   NoHyphen w              the word w begins with no hyphen
 --   Reads file exit_code r  r reads that file, or standard input where there is none, with or without --exit-code
 --   Says r, Refuses r       r tells help or the version; r tells what is wrong
---   AsksPlainly p ws r      r is what the words ws, of which the first is the program's own name, ask for where they are plain
+--   AsksPlainly p ws r      r is what plain words ws ask for, of which the first is the program's own name
 use Rattle.std.specs.Prelude.{◌≡◌, ◌≢◌, true, false, Bool, List, [], ◌∷◌, Some, None, Option, option_map, codes}
 use Rattle.clap.specs.Words.{Text}
 use Rattle.cli.specs.declared.words.Program.{Program}
@@ -31,7 +31,8 @@ pub record AsksPlainly (p : Program) (ws : List Text) (r : Request) : Type 0 whe
   pub file : (name w : Text) → NoHyphen w → ws ≡ name ∷ w ∷ [] → Reads (Some w) false r
   pub second : (name v w : Text) → NoHyphen v → NoHyphen w → ws ≡ name ∷ v ∷ w ∷ [] → Refuses r
   pub exit_code : p.has_exit_code ≡ true → (name : Text) → ws ≡ name ∷ codes "--exit-code" ∷ [] → Reads None true r
-  pub exit_code_of : p.has_exit_code ≡ true → (name w : Text) → NoHyphen w → ws ≡ name ∷ codes "--exit-code" ∷ w ∷ [] → Reads (Some w) true r
+  pub exit_code_of : p.has_exit_code ≡ true → (name w : Text) → NoHyphen w →
+      ws ≡ name ∷ codes "--exit-code" ∷ w ∷ [] → Reads (Some w) true r
   pub unknown : p.has_exit_code ≡ false → (name : Text) → ws ≡ name ∷ codes "--exit-code" ∷ [] → Refuses r
   pub help : (name : Text) → ws ≡ name ∷ codes "--help" ∷ [] → Says r
   pub version : (name : Text) → ws ≡ name ∷ codes "--version" ∷ [] → Says r

@@ -24,7 +24,8 @@ Flag (Some t) b = (t ≡ codes "true" → b ≡ true) × (t ≡ codes "false" �
 
 abbrev pub Names : List Row → Request → Type 0
 Names rows (Read file exit_code) =
-    (option_map (λ w. w.now) file ≡ read_file (first_of (codes "file") rows)) × Flag (one_of (codes "exit-code") rows) exit_code
+    (option_map (λ w. w.now) file ≡ read_file (first_of (codes "file") rows))
+    × Flag (one_of (codes "exit-code") rows) exit_code
 Names rows (Say t) = ⊥
 Names rows (Refuse t) = ⊥
 

@@ -1,96 +1,55 @@
-// Lists the trace file on standard input, and writes it back to see that the bytes are the same.
+// inspect: lists a trace file.
 #![tactic(auto)]
 
-use anyhow::anyhow;
-use events::Event;
-use std::io::Read;
-use trace::{ENOUGH, Place, ReadError, Reader, Refusal, Trace, read_whole, write};
+mod listing;
+mod work;
 
-// The headings of the sections after `last`, up to `section`.
-fn headings(rt: &HostRuntime, last: usize, section: usize) -> anyhow::Result<()> {
-    for number in (1..=section).skip(last) {
-        println!(rt; "section {number}")?;
-    }
-    Ok(())
-}
+use cli::{Program, Request, parse};
+use std::fs::File;
+use std::process::ExitCode;
+use std::{env, io};
+use streams::System;
+use work::{Failure, inspect};
 
-// An event with its number in the file and its first byte.
-fn event_line(rt: &HostRuntime, at: Place, byte: usize, event: Event) -> anyhow::Result<()> {
-    let number = at.events;
-    println!(rt; "  event {number}, byte {byte}: {event}")?;
-    Ok(())
-}
+static PROGRAM: Program = Program {
+    name: "inspect",
+    about: "Lists a trace file: its sections and events, up to its end or its first refusal.",
+    has_exit_code: false,
+};
 
-// The refusal with its number, its site and its meaning.
-fn refusal_line(rt: &HostRuntime, refusal: Refusal) -> anyhow::Result<()> {
-    let meaning = refusal.fault;
-    println!(rt; "{refusal}: {meaning}")?;
-    Ok(())
-}
-
-// Every section and event, up to the end or to a refusal.
-fn list(rt: &HostRuntime, bytes: &[u8]) -> anyhow::Result<()> {
-    let mut reader = Reader::new(bytes);
-    let sections = match reader.contents() {
-        Ok(sections) => sections,
-        Err(refusal) => return refusal_line(rt, refusal),
-    };
-    let mut last = 0;
-    // no event has fewer bytes than one, so this is enough; a loop with no such bound would need a proof file for its measure,
-    // and this program has none
-    for _ in 0..bytes.len() {
-        let before = reader.place();
-        match reader.next() {
-            Ok(Some(event)) => {
-                let at = reader.place();
-                headings(rt, last, at.section)?;
-                event_line(rt, at, before.byte, event)?;
-                last = at.section;
-            }
-            Ok(None) => break,
-            Err(refusal) => {
-                headings(rt, last, refusal.at.section)?;
-                return refusal_line(rt, refusal);
-            }
+// Lists the file, or standard input where there is none.
+fn list(rt: &HostRuntime, file: Option<&str>) -> Result<(), Failure> {
+    let mut output = System(rt.stdout());
+    match file {
+        None => inspect(rt.alloc(), &mut System(rt.stdin()), &mut output),
+        Some(name) => {
+            let opened = File::open(rt, name).map_err(Failure::Reading)?;
+            inspect(rt.alloc(), &mut System(opened), &mut output)
         }
     }
-    headings(rt, last, sections)
 }
 
-// Writes what was read, and compares.
-fn write_back(rt: &HostRuntime, bytes: &[u8], trace: Trace) -> anyhow::Result<()> {
-    let events = trace.events.len();
-    let sections = trace.counts.len();
-    println!(rt; "events {events} sections {sections}")?;
-    let mut out = vec![in rt.alloc(); 0u8; bytes.len()]?;
-    match write(
-        trace.events.as_slice(),
-        trace.counts.as_slice(),
-        out.as_mut_slice(),
-    ) {
-        Ok(length) => {
-            let verdict = if out.as_slice() == bytes {
-                "the same"
-            } else {
-                "other"
-            };
-            println!(rt; "written back: {verdict} {length} bytes")?;
-        }
-        Err(fault) => {
-            let number = fault.number();
-            println!(rt; "not written back: {number}")?;
-        }
+// Lists the file, and tells what went wrong.
+fn list_and_tell(rt: &HostRuntime, file: Option<&str>) -> io::Result<ExitCode> {
+    if let Err(failure) = list(rt, file) {
+        let name = file.unwrap_or("standard input");
+        eprintln!(rt; "inspect: {name}: {failure}")?;
+        return Ok(ExitCode::FAILURE);
     }
-    Ok(())
+    Ok(ExitCode::SUCCESS)
 }
 
-fn main(rt: HostRuntime) -> anyhow::Result<()> {
-    let mut bytes = Vec::new(rt.alloc());
-    rt.stdin().take(ENOUGH).read_to_end(&mut bytes)?;
-    list(&rt, bytes.as_slice())?;
-    match read_whole(rt.alloc(), bytes.as_slice()) {
-        Ok(trace) => write_back(&rt, bytes.as_slice(), trace),
-        Err(ReadError::Refused(_)) => Ok(()),
-        Err(ReadError::Memory) => Err(anyhow!("no memory")),
+fn main(rt: HostRuntime) -> io::Result<ExitCode> {
+    let words: Vec<String> = env::args(&rt)?.collect(rt.alloc())?;
+    match parse(rt.alloc(), &PROGRAM, words.as_slice())? {
+        Request::Read { file, .. } => list_and_tell(&rt, file),
+        Request::Say(text) => {
+            print!(rt; "{text}")?;
+            Ok(ExitCode::SUCCESS)
+        }
+        Request::Refuse(text) => {
+            eprint!(rt; "{text}")?;
+            Ok(ExitCode::from(2))
+        }
     }
 }
