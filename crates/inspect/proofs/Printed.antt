@@ -16,15 +16,15 @@ use Rattle.inspect.specs.Prints.{ListsAll, Uses}
 use Rattle.inspect.proofs.Lines.{sections_none}
 
 pub uses : {E : Type 0} (old new : Option (List ℕ)) (r : Result ℕ E) (buf : List ℕ) → length buf ≤ 65537 → FillsUpTo old new r buf → Uses old new
-uses old new (Ok n) buf few fills = let long = length-take-le n buf fills.0 in record { used = take n buf; few = omega arith; consumed = fills.1 }
-uses old new (Err e) buf few fills = let long = length-take-le fills.0 buf fills.1 in record { used = take fills.0 buf; few = omega arith; consumed = fills.2 }
+uses old new (Ok n) buf few fills = let long = length-take-le n buf fills.0.0 in record { used = take n buf; few = omega arith; consumed = fills.0.1 }
+uses old new (Err e) buf few fills = let long = length-take-le fills.0 buf fills.1.0 in record { used = take fills.0 buf; few = omega arith; consumed = fills.1.1 }
 
 -- the buffer that was filled, cut where the reading ended
 pub gives : (E : Type 0) (a b : Option (List ℕ)) (buf items kept : List ℕ) (n k : ℕ) → length buf ≡ 65537 → k ≡ 65537 → FillsUpTo {E = E} a b (Ok n) buf →
     kept ≡ take n (take k (buf ++ drop (length buf) items)) → IfSome a (λ xs. kept ≡ take 65537 xs)
 gives E None b buf items kept n k long all fills is = tt
 gives E (Some xs) b buf items kept n k long all fills is =
-    let read = first_read (Some xs) b buf n fills.0 fills.1 fills.2 in
+    let read = first_read (Some xs) b buf n fills.0.0 fills.0.1 fills.1 in
     is ∙ ap (λ m. take n (take m (buf ++ drop (length buf) items))) (all ∙ sym long) ∙ ap (take n) (take-append_seam buf (drop (length buf) items))
     ∙ read.0 ∙ ap (λ m. take m xs) long
 
