@@ -28,11 +28,14 @@ extern "C" {
 #define WICKERHERON_NO_ROOM (-19)      /* the certificate has more than out_len bytes */
 #define WICKERHERON_NO_SUCH_KIND (-22) /* the kind is none of the four; tested first */
 
-/* The most bytes of a trace file that is not refused for its length, and enough for any certificate. */
+/*
+ * The most bytes of a trace file that is not refused for its length; and the most of any certificate, which is proved:
+ * where the buffer has so much room, each of the four kinds is answered a length.
+ */
 #define WICKERHERON_MOST_TRACE 65536
 #define WICKERHERON_MOST_TEXT 35075
 
-/* The bytes of stack that a call can count on to be enough: some 40,000 were measured, by every kind. */
+/* So many bytes of stack are enough for a call. Some 40,000 were measured, of every kind; no proof speaks of them. */
 #define WICKERHERON_STACK 65536
 
 /*
