@@ -28,7 +28,7 @@ static struct trace traces[MOST_TRACES];
 static size_t count;
 static struct caller callers[THREADS];
 
-/* Thread 0 forks thread 1 and writes place 63, and thread 1 writes it again and again: a thousand findings and one more. */
+/* Thread 0 forks thread 1 and writes place 63, and thread 1 writes it again and again: more than a thousand findings. */
 static void make_racy(struct trace *trace)
 {
     static const uint8_t front[] = {1, 0, 1, 0, 12, 0, 0, 0, 0, 0, 0, 0, 6, 0, 1, 1, 0, 63};
@@ -53,12 +53,17 @@ static int read_trace(const char *path, struct trace *trace)
     return !failed;
 }
 
+static int64_t certify(const struct trace *trace, uint32_t kind, char *text)
+{
+    return wickerheron_certify(trace->bytes, trace->length, kind, (uint8_t *)text, WICKERHERON_MOST_TEXT);
+}
+
 /* Calls with the stack below this frame painted, and notes how much of it the call wrote to. */
 static void call(struct caller *caller, const struct trace *trace, uint32_t kind)
 {
     uint8_t *here = __builtin_frame_address(0);
     memset(caller->stack, PAINT, (size_t)(here - caller->stack) - OWN);
-    int64_t answer = wickerheron_certify(trace->bytes, trace->length, kind, (uint8_t *)caller->text, sizeof caller->text);
+    int64_t answer = certify(trace, kind, caller->text);
     size_t kept = 0;
     while (caller->stack[kept] == PAINT)
         kept++;
@@ -87,31 +92,47 @@ static int start(struct caller *caller)
            pthread_create(&caller->thread, &attributes, call_all, caller) == 0;
 }
 
-int main(int words, char **word)
+/* Reads the files, and makes the certificate of each; whether all could be read. */
+static int prepare(int files, char **names)
 {
     make_racy(&traces[count++]);
-    for (int i = 1; i < words && count < MOST_TRACES; i++)
-        if (!read_trace(word[i], &traces[count++])) {
-            perror(word[i]);
-            return 1;
+    for (int i = 0; i < files && count < MOST_TRACES; i++)
+        if (!read_trace(names[i], &traces[count++])) {
+            perror(names[i]);
+            return 0;
         }
     for (size_t i = 0; i < count; i++)
-        traces[i].answer = wickerheron_certify(traces[i].bytes, traces[i].length, WICKERHERON_CLOCKS,
-                                               (uint8_t *)traces[i].text, sizeof traces[i].text);
+        traces[i].answer = certify(&traces[i], WICKERHERON_CLOCKS, traces[i].text);
+    return 1;
+}
+
+/* Starts all callers, waits for them, and sums up in the first; whether they could be started. */
+static int run_all(void)
+{
     for (int i = 0; i < THREADS; i++)
-        if (!start(&callers[i])) {
-            fprintf(stderr, "threads: no thread\n");
-            return 1;
-        }
-    long calls = 0, failures = 0;
-    size_t taken = 0;
-    for (int i = 0; i < THREADS; i++) {
+        if (!start(&callers[i]))
+            return 0;
+    for (int i = 0; i < THREADS; i++)
         pthread_join(callers[i].thread, NULL);
-        calls += callers[i].calls;
-        failures += callers[i].failures;
-        taken = callers[i].taken > taken ? callers[i].taken : taken;
+    for (int i = 1; i < THREADS; i++) {
+        callers[0].calls += callers[i].calls;
+        callers[0].failures += callers[i].failures;
+        if (callers[i].taken > callers[0].taken)
+            callers[0].taken = callers[i].taken;
     }
-    printf("threads: %d at once, %zu traces, %ld calls, %ld failed; at most %zu bytes of stack, of %d\n", THREADS, count,
-           calls, failures, taken, WICKERHERON_STACK);
-    return failures == 0 && taken <= WICKERHERON_STACK ? 0 : 1;
+    return 1;
+}
+
+int main(int words, char **word)
+{
+    if (!prepare(words - 1, word + 1))
+        return 1;
+    if (!run_all()) {
+        fprintf(stderr, "threads: no thread\n");
+        return 1;
+    }
+    const struct caller *all = &callers[0];
+    printf("threads: %d at once, %zu traces, %ld calls, %ld failed; ", THREADS, count, all->calls, all->failures);
+    printf("at most %zu bytes of stack, of %d\n", all->taken, WICKERHERON_STACK);
+    return all->failures == 0 && all->taken <= WICKERHERON_STACK ? 0 : 1;
 }
