@@ -28,7 +28,7 @@ static struct trace traces[MOST_TRACES];
 static size_t count;
 static struct caller callers[THREADS];
 
-/* Thread 0 forks thread 1 and writes place 63, and thread 1 writes it again and again: more than a thousand findings. */
+/* Thread 0 forks thread 1 and writes place 63, which thread 1 writes again and again: more than a thousand findings. */
 static void make_racy(struct trace *trace)
 {
     static const uint8_t front[] = {1, 0, 1, 0, 12, 0, 0, 0, 0, 0, 0, 0, 6, 0, 1, 1, 0, 63};
