@@ -1,30 +1,19 @@
 // The text of a listing: the sections and events that a file holds, and how it ends.
 ghost use Rattle.std.specs.Prelude.{◌≡◌, ◌+◌, ◌*◌, ◌≤◌, ◌++◌, IfOk, OnOk, length, string_bytes, sum};
-ghost use Rattle.trace.specs.Codec.{event_bytes};
 ghost use Rattle.trace.specs.File.{body};
 ghost use Rattle.trace.specs.Fronts.{IsFrontOf};
 ghost use Rattle.inspect.specs.Listings.{IsListing, ending, event_lines, sections_text};
 ghost use Rattle.inspect.specs.Places.{Fits, behind};
 
-use events::{Action, Event};
+use events::Event;
 use std::alloc::{AllocError, Global};
-use trace::{Front, Reader, read_front};
+use trace::{Front, Reader, event_size, read_front};
 
 // Where an event stands in the file: its number, from 1, and its first byte.
 #[derive(Clone, Copy)]
 struct Spot {
     number: usize,
     byte: usize,
-}
-
-// How many bytes the event takes in a file.
-fn event_size(event: &Event) -> usize
-    ensures { result ≡ length (event_bytes event.now) }
-{
-    match event.action {
-        Action::Commit { .. } => 18,
-        _ => 3,
-    }
 }
 
 // A line for each event, and on to the spot behind them.

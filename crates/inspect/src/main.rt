@@ -11,7 +11,7 @@ use std::{env, io};
 use streams::System;
 use work::{Failure, inspect};
 
-static PROGRAM: Program = Program {
+const PROGRAM: Program = Program {
     name: "inspect",
     about: "Lists a trace file: its sections and events, up to its end or its first refusal.",
     has_exit_code: false,
@@ -29,11 +29,20 @@ fn list(rt: &HostRuntime, file: Option<&str>) -> Result<(), Failure> {
     }
 }
 
-// Lists the file, and tells what went wrong.
-fn list_and_tell(rt: &HostRuntime, file: Option<&str>) -> io::Result<ExitCode> {
+// Says on standard error why there is no listing, or not all of one.
+fn complain(rt: &HostRuntime, file: Option<&str>, failure: &Failure) -> io::Result<()> {
+    let input = file.unwrap_or("standard input");
+    match failure {
+        Failure::Reading(e) => eprintln!(rt; "inspect: {input}: {e}"),
+        Failure::Memory => eprintln!(rt; "inspect: {input}: no memory"),
+        Failure::Printing(e) => eprintln!(rt; "inspect: standard output: {e}"),
+    }
+}
+
+// Lists the file, and complains where that failed.
+fn run(rt: &HostRuntime, file: Option<&str>) -> io::Result<ExitCode> {
     if let Err(failure) = list(rt, file) {
-        let name = file.unwrap_or("standard input");
-        eprintln!(rt; "inspect: {name}: {failure}")?;
+        complain(rt, file, &failure)?;
         return Ok(ExitCode::FAILURE);
     }
     Ok(ExitCode::SUCCESS)
@@ -42,7 +51,7 @@ fn list_and_tell(rt: &HostRuntime, file: Option<&str>) -> io::Result<ExitCode> {
 fn main(rt: HostRuntime) -> io::Result<ExitCode> {
     let words: Vec<String> = env::args(&rt)?.collect(rt.alloc())?;
     match parse(rt.alloc(), &PROGRAM, words.as_slice())? {
-        Request::Read { file, .. } => list_and_tell(&rt, file),
+        Request::Read { file, .. } => run(&rt, file),
         Request::Say(text) => {
             print!(rt; "{text}")?;
             Ok(ExitCode::SUCCESS)

@@ -5,7 +5,7 @@ ghost use Rattle.inspect.specs.declared.work.Failure.TheVariants.{Memory};
 
 use crate::listing::listing;
 use std::alloc::{AllocError, Global};
-use std::{fmt, io};
+use std::io;
 use streams::{Sink, Source, read_up_to, write_whole};
 use trace::ENOUGH;
 
@@ -15,16 +15,6 @@ pub enum Failure {
     Reading(io::Error),
     Memory,
     Printing(io::Error),
-}
-
-impl fmt::Display for Failure {
-    fn fmt<W: fmt::Write>(&self, f: &mut fmt::Formatter<W>) -> fmt::Result {
-        match self {
-            Failure::Reading(e) => write!(f, "{e}"),
-            Failure::Memory => write!(f, "no memory"),
-            Failure::Printing(e) => write!(f, "the listing is not printed: {e}"),
-        }
-    }
 }
 
 impl From<AllocError> for Failure {

@@ -10,7 +10,7 @@ use Rattle.inspect.proofs.listing.push_events.Goals as goal
 pub overflow_add-at-in-loop-event : goal.overflow_add-at-in-loop-event
 overflow_add-at-in-loop-event c =
     let more = next_bytes c.loop-event.event-index c.args.events.now c.loop-event-test.true in
-    let size : c.event_size.result ≡ length (event_bytes (get_or c.args.events.now c.loop-event.event-index blank)) = c.event_size.ensures in
+    let size : c.event_size.result ≡ length (event_bytes (get_or c.args.events.now c.loop-event.event-index blank)) = c.event_size.ensures.value in
     let byte = c.loop-event.invariant.byte in
     let fits = c.requires.1 in
     search rules
@@ -24,7 +24,7 @@ loop-event-preserved c =
     let e = get_or es i blank in
     let h = c.loop-event-test.true in
     let more = next_bytes i es h in
-    let size : c.event_size.result ≡ length (event_bytes e) = c.event_size.ensures in
+    let size : c.event_size.result ≡ length (event_bytes e) = c.event_size.ensures.value in
     let wrote : string_bytes c.writeln.new.self ≡ string_bytes c.loop-event.text ++ event_line n b e = c.in_ok-writeln.ensures.bytes in
     record {
       text = ap₂ (λ t s. t ++ event_lines (n + 1) (b + s) (drop (i + 1) es)) wrote size ∙ sym (next_event (string_bytes c.loop-event.text) n b i es h) ∙ c.loop-event.invariant.text;
