@@ -2,7 +2,9 @@
 --   Tells ps t            t is the text of the parts ps, with the only replies to their calls that keep the promise
 --   Shows ps old new r    without a failure just that text was printed; where memory was wanting nothing; else a front
 --   FailsByMemory r       if there is a failure, memory was wanting
+--   IsErrorOf f e         e is the error that is told of the failure f: of a failed printing the sink's own
 use Rattle.std.specs.Prelude.{◌≡◌, ℕ, List, [], Ok, Err, Option, Result}
+use Rattle.std.specs.declared.io.Error.{Error}
 use Rattle.std.specs.Io.KnownBytes.{Appends}
 use Rattle.monitor.specs.declared.session.Reply.{Reply}
 use Rattle.monitor.specs.Promise.{Promise}
@@ -28,3 +30,7 @@ abbrev pub FailsByMemory : Result (Unit {0}) Failure → Type 0
 FailsByMemory (Ok u) = Unit {0}
 FailsByMemory (Err Memory) = Unit {0}
 FailsByMemory (Err (Printing e)) = ⊥
+
+abbrev pub IsErrorOf : Failure → Error → Type 0
+IsErrorOf Memory e = Unit {0}
+IsErrorOf (Printing told) e = e ≡ told

@@ -3,7 +3,7 @@ ghost use Rattle.std.specs.Prelude.{◌≡◌, [], IfOk, OnOk, string_bytes};
 ghost use Rattle.monitor.specs.Promise.{Promise};
 ghost use Rattle.weighings.specs.declared.show.Failure.TheVariants.{Memory};
 ghost use Rattle.weighings.specs.Steps.{calls_of};
-ghost use Rattle.weighings.specs.Shown.{Tells, Shows, FailsByMemory};
+ghost use Rattle.weighings.specs.Shown.{Tells, Shows, FailsByMemory, IsErrorOf};
 
 use crate::calls::{let_go, listed};
 use crate::steps::Part;
@@ -31,6 +31,8 @@ impl From<AllocError> for Failure {
 }
 
 impl From<Failure> for io::Error {
+    ghost from_gives = { IsErrorOf };
+
     fn from(failure: Failure) -> io::Error {
         match failure {
             Failure::Memory => io::Error::from(AllocError),
