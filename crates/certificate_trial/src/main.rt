@@ -4,6 +4,7 @@
 mod calls;
 mod damaged;
 mod endings;
+mod failing;
 mod files;
 mod many;
 mod rooms;
@@ -20,5 +21,6 @@ fn main(rt: HostRuntime) -> anyhow::Result<()> {
     damaged::behind(&rt)?;
     many::declines(&rt)?;
     rooms::rooms(&rt)?;
-    endings::endings(&rt)
+    endings::endings(&rt)?;
+    failing::failing(&rt)
 }

@@ -1,14 +1,8 @@
 // certify: prints the certificate of a trace file.
 #![tactic(auto)]
 
-mod printing;
-mod status;
-#[cfg(test)]
-mod tests;
-
-use crate::printing::{Failure, certify};
-use crate::status::status;
 use certificate::Ending;
+use certifier::{Failure, certify, status};
 use cli::{Program, Request, parse};
 use std::fs::File;
 use std::process::ExitCode;

@@ -1,15 +1,12 @@
 // inspect: lists a trace file.
 #![tactic(auto)]
 
-mod listing;
-mod work;
-
 use cli::{Program, Request, parse};
+use inspector::{Failure, inspect};
 use std::fs::File;
 use std::process::ExitCode;
 use std::{env, io};
 use streams::System;
-use work::{Failure, inspect};
 
 const PROGRAM: Program = Program {
     name: "inspect",
